@@ -7,7 +7,7 @@ use crate::noting::note_refusal;
 use crate::random::Random;
 use crate::varied::Varied;
 use crate::words::{put, put_number};
-use cluster_nodes::{NodeLines, nodes_in};
+use listed_nodes::{NodeLines, nodes_in};
 use cluster_survey::masters_of;
 use cluster_views::survey_of;
 use server_commands::ServerBook;

@@ -6,7 +6,7 @@ ghost use Rattle.node_forgetting.specs.Forgetting.{IsForgetAnswer, NamesNoNode};
 
 use crate::misuse::misuse;
 use byte_streams::ByteOut;
-use cluster_inspection::{Site, out_of_memory, report};
+use cluster_inspection::{System, out_of_memory, report};
 use command_words::ForgetWords;
 use node_forgetting::forget_answer;
 use std::alloc::AllocError;
@@ -25,13 +25,13 @@ pub fn forget_node<
     H: Net<Listener = TcpListener, Stream = TcpStream> + Clock + Files<File = File> + AllocGlobal,
     W: ByteOut,
     E: ByteOut,
->(site: &Site<'_, H>, words: &ForgetWords, writer: &mut W, errors: &mut E) -> u8
+>(system: &System<'_, H>, words: &ForgetWords, writer: &mut W, errors: &mut E) -> u8
     requires { IsAddressed words.now.cluster }
     ensures { Plans (IsForgetAnswer words.now) (NamesNoNode words.now) misnamed_node
         (record { took = W.took; failures = W.failures; before = writer.old; after = writer.new })
         (record { took = E.took; failures = E.failures; before = errors.old; after = errors.new }) result }
 {
-    match forget_answer(site, words) {
+    match forget_answer(system, words) {
         Ok(Some(answer)) => report(&answer, writer),
         Ok(None) => misuse(errors, MISNAMED_NODE.as_bytes()),
         Err(AllocError) => out_of_memory(writer),

@@ -18,7 +18,7 @@ use crate::slot_counts::slots_asked;
 use crate::weights::weights_asked;
 use byte_streams::ByteOut;
 use cluster_inspection::{
-    NamingFault, NoCluster, Site, named_plan, out_of_memory, owners_at_start, report,
+    NamingFault, NoCluster, System, named_plan, out_of_memory, owners_at_start, report,
 };
 use command_words::{DrainWords, RebalanceWords, ReshardWords, Start};
 use plan_language::{Plan, print};
@@ -45,13 +45,13 @@ pub fn plan_reshard<
     H: Net<Listener = TcpListener, Stream = TcpStream> + Clock + Files<File = File> + AllocGlobal,
     W: ByteOut,
     E: ByteOut,
->(site: &Site<'_, H>, words: &ReshardWords, writer: &mut W, errors: &mut E) -> u8
+>(system: &System<'_, H>, words: &ReshardWords, writer: &mut W, errors: &mut E) -> u8
     requires { IsReshard words.now }
     ensures { Plans (IsReshardAnswer words.now) (NamesNoNodes words.now) misnamed_nodes
         (record { took = W.took; failures = W.failures; before = writer.old; after = writer.new })
         (record { took = E.took; failures = E.failures; before = errors.old; after = errors.new }) result }
 {
-    match reshard_answer(site, words) {
+    match reshard_answer(system, words) {
         Ok(Some(answer)) => report(&answer, writer),
         Ok(None) => misuse(errors, MISNAMED_NODES.as_bytes()),
         Err(AllocError) => out_of_memory(writer),
@@ -64,13 +64,13 @@ pub fn plan_rebalance<
     H: Net<Listener = TcpListener, Stream = TcpStream> + Clock + Files<File = File> + AllocGlobal,
     W: ByteOut,
     E: ByteOut,
->(site: &Site<'_, H>, words: &RebalanceWords, writer: &mut W, errors: &mut E) -> u8
+>(system: &System<'_, H>, words: &RebalanceWords, writer: &mut W, errors: &mut E) -> u8
     requires { IsRebalance words.now }
     ensures { Plans (IsRebalanceAnswer words.now) (NamesNoWeights words.now) (misnamed_weights words.now.start)
         (record { took = W.took; failures = W.failures; before = writer.old; after = writer.new })
         (record { took = E.took; failures = E.failures; before = errors.old; after = errors.new }) result }
 {
-    match rebalance_answer(site, words) {
+    match rebalance_answer(system, words) {
         Ok(Some(answer)) => report(&answer, writer),
         Ok(None) => misuse(errors, misnamed_weights(&words.start).as_bytes()),
         Err(AllocError) => out_of_memory(writer),
@@ -83,13 +83,13 @@ pub fn plan_drain<
     H: Net<Listener = TcpListener, Stream = TcpStream> + Clock + Files<File = File> + AllocGlobal,
     W: ByteOut,
     E: ByteOut,
->(site: &Site<'_, H>, words: &DrainWords, writer: &mut W, errors: &mut E) -> u8
+>(system: &System<'_, H>, words: &DrainWords, writer: &mut W, errors: &mut E) -> u8
     requires { IsDraining words.now }
     ensures { Plans (IsDrainAnswer words.now) (NamesNoDrain words.now) misnamed_drain
         (record { took = W.took; failures = W.failures; before = writer.old; after = writer.new })
         (record { took = E.took; failures = E.failures; before = errors.old; after = errors.new }) result }
 {
-    match drain_answer(site, words) {
+    match drain_answer(system, words) {
         Ok(Some(answer)) => report(&answer, writer),
         Ok(None) => misuse(errors, MISNAMED_DRAIN.as_bytes()),
         Err(AllocError) => out_of_memory(writer),
@@ -114,79 +114,79 @@ fn misnamed_weights(start: &Start) -> &'static str
 /// What there is to say, unless the words name no nodes of the cluster.
 fn reshard_answer<
     H: Net<Listener = TcpListener, Stream = TcpStream> + Clock + Files<File = File> + AllocGlobal,
->(site: &Site<'_, H>, words: &ReshardWords) -> Result<Option<Transcript>, AllocError>
+>(system: &System<'_, H>, words: &ReshardWords) -> Result<Option<Transcript>, AllocError>
     requires { IsReshard words.now }
     ensures status { IfOk result (λ o. IfSome o (λ t. t.status ≤ 1)) }
     ensures says { IfOk result (λ o. MatchOption o (NamesNoNodes words.now)
         (λ t. IsReshardAnswer words.now t.status t.printed.items)) }
 {
-    let (owners, book) = match owners_at_start(site, &words.start, &[]) {
+    let (owners, book) = match owners_at_start(system, &words.start, &[]) {
         Ok(found) => found,
         Err(NoCluster::Memory) => return Err(AllocError),
         Err(NoCluster::Answer(answer)) => return Ok(Some(answer)),
     };
-    let Some((sources, target)) = nodes_named(words, site.alloc, owners.nodes())? else {
+    let Some((sources, target)) = nodes_named(words, system.alloc, owners.nodes())? else {
         return Ok(None);
     };
     let sources = sources.as_slice();
     let count = slots_asked(words.slots, &owners, sources);
-    let planned = reshard(site.alloc, &owners, sources, target, count, words.batch);
-    Ok(Some(transcript_of(site.alloc, &book, planned)?))
+    let planned = reshard(system.alloc, &owners, sources, target, count, words.batch);
+    Ok(Some(transcript_of(system.alloc, &book, planned)?))
 }
 
 /// What there is to say, unless the words do not give a weight for each node.
 fn rebalance_answer<
     H: Net<Listener = TcpListener, Stream = TcpStream> + Clock + Files<File = File> + AllocGlobal,
->(site: &Site<'_, H>, words: &RebalanceWords) -> Result<Option<Transcript>, AllocError>
+>(system: &System<'_, H>, words: &RebalanceWords) -> Result<Option<Transcript>, AllocError>
     requires { IsRebalance words.now }
     ensures status { IfOk result (λ o. IfSome o (λ t. t.status ≤ 1)) }
     ensures says { IfOk result (λ o. MatchOption o (NamesNoWeights words.now)
         (λ t. IsRebalanceAnswer words.now t.status t.printed.items)) }
 {
-    let (owners, book) = match owners_at_start(site, &words.start, &[]) {
+    let (owners, book) = match owners_at_start(system, &words.start, &[]) {
         Ok(found) => found,
         Err(NoCluster::Memory) => return Err(AllocError),
         Err(NoCluster::Answer(answer)) => return Ok(Some(answer)),
     };
-    let Some(weights) = weights_asked(words, site.alloc, owners.nodes())? else {
+    let Some(weights) = weights_asked(words, system.alloc, owners.nodes())? else {
         return Ok(None);
     };
     let planned = rebalance(
-        site.alloc,
+        system.alloc,
         &owners,
         weights.as_slice(),
         words.threshold,
         words.use_empty,
         words.batch,
     );
-    Ok(Some(transcript_of(site.alloc, &book, planned)?))
+    Ok(Some(transcript_of(system.alloc, &book, planned)?))
 }
 
 /// What there is to say, unless the words name no nodes of the cluster.
 fn drain_answer<
     H: Net<Listener = TcpListener, Stream = TcpStream> + Clock + Files<File = File> + AllocGlobal,
->(site: &Site<'_, H>, words: &DrainWords) -> Result<Option<Transcript>, AllocError>
+>(system: &System<'_, H>, words: &DrainWords) -> Result<Option<Transcript>, AllocError>
     requires { IsDraining words.now }
     ensures status { IfOk result (λ o. IfSome o (λ t. t.status ≤ 1)) }
     ensures says { IfOk result (λ o. MatchOption o (NamesNoDrain words.now)
         (λ t. IsDrainAnswer words.now t.status t.printed.items)) }
 {
-    let (owners, book) = match owners_at_start(site, &words.start, &[]) {
+    let (owners, book) = match owners_at_start(system, &words.start, &[]) {
         Ok(found) => found,
         Err(NoCluster::Memory) => return Err(AllocError),
         Err(NoCluster::Answer(answer)) => return Ok(Some(answer)),
     };
-    let Some((sources, targets)) = drain_named(words, site.alloc, owners.nodes())? else {
+    let Some((sources, targets)) = drain_named(words, system.alloc, owners.nodes())? else {
         return Ok(None);
     };
     let planned = drain(
-        site.alloc,
+        system.alloc,
         &owners,
         sources.as_slice(),
         targets.as_slice(),
         words.batch,
     );
-    Ok(Some(transcript_of(site.alloc, &book, planned)?))
+    Ok(Some(transcript_of(system.alloc, &book, planned)?))
 }
 
 /// The plan's text, or why there is no plan. Out of memory is an error of its own.

@@ -11,7 +11,7 @@ use crate::service::serve_words;
 use crate::verifying::verify_from;
 use byte_streams::{ByteIn, ByteOut};
 use cluster_inspection::{
-    CredentialFault, Site, credentials_given, out_of_memory, show, survey_cluster,
+    CredentialFault, System, credentials_given, out_of_memory, show, survey_cluster,
 };
 use cluster_runs::{apply_plan, resume_plan};
 use command_words::{Start, Usage, parse};
@@ -117,12 +117,12 @@ fn run_by_servers<
 {
     match credentials_for(rt, alloc, usage) {
         Ok(credentials) => {
-            let site = Site {
+            let system = System {
                 rt,
                 alloc,
                 credentials: &credentials,
             };
-            run_at(&site, usage, reader, writer, errors)
+            run_at(&system, usage, reader, writer, errors)
         }
         Err(CredentialFault::Memory) => out_of_memory(writer),
         Err(fault) => refuse(alloc, fault, writer, errors),
@@ -135,7 +135,7 @@ fn run_at<
     R: ByteIn,
     W: ByteOut,
     E: ByteOut,
->(site: &Site<'_, H>, usage: &Usage, reader: &mut R, writer: &mut W, errors: &mut E) -> u8
+>(system: &System<'_, H>, usage: &Usage, reader: &mut R, writer: &mut W, errors: &mut E) -> u8
     requires range { IsInRange usage.now }
     requires servers { MayAskServers usage.now }
     ensures status { result ≤ 3 }
@@ -145,17 +145,17 @@ fn run_at<
         (record { took = E.took; failures = E.failures; before = errors.old; after = errors.new }) result usage.now }
 {
     match usage {
-        Usage::Verify(start) => verify_from(site, start, reader, writer),
-        Usage::Reshard(words) => plan_reshard(site, words, writer, errors),
-        Usage::Rebalance(words) => plan_rebalance(site, words, writer, errors),
-        Usage::Survey(words) => survey_cluster(site, words, writer, errors),
-        Usage::Apply(words) => apply_plan(site, words, reader, writer, errors),
-        Usage::Resume(words) => resume_plan(site, words, writer, errors),
-        Usage::Explain(words) => explain_plan(site, words, reader, writer),
-        Usage::Drain(words) => plan_drain(site, words, writer, errors),
-        Usage::Forget(words) => forget_node(site, words, writer, errors),
-        Usage::Draw(start) => draw_plan(site, start, reader, writer, errors),
-        Usage::DrawNow(words) => draw_now(site, words, writer, errors),
+        Usage::Verify(start) => verify_from(system, start, reader, writer),
+        Usage::Reshard(words) => plan_reshard(system, words, writer, errors),
+        Usage::Rebalance(words) => plan_rebalance(system, words, writer, errors),
+        Usage::Survey(words) => survey_cluster(system, words, writer, errors),
+        Usage::Apply(words) => apply_plan(system, words, reader, writer, errors),
+        Usage::Resume(words) => resume_plan(system, words, writer, errors),
+        Usage::Explain(words) => explain_plan(system, words, reader, writer),
+        Usage::Drain(words) => plan_drain(system, words, writer, errors),
+        Usage::Forget(words) => forget_node(system, words, writer, errors),
+        Usage::Draw(start) => draw_plan(system, start, reader, writer, errors),
+        Usage::DrawNow(words) => draw_now(system, words, writer, errors),
         Usage::Rehearse | Usage::Serve(_) | Usage::Help(_) | Usage::Wrong(_) => 1,
     }
 }

@@ -9,7 +9,7 @@ ghost use Rattle.transcripts.specs.PlanVerdicts.{SaysOfPlan};
 ghost use Rattle.byte_streams.specs.declared.reading.Unread.TheVariants as unread;
 
 use byte_streams::{ByteIn, ByteOut, Unread, read_whole};
-use cluster_inspection::{Site, out_of_memory, report, verify_at};
+use cluster_inspection::{System, out_of_memory, report, verify_at};
 use command_words::{Sizes, Start};
 use key_slots::OwnerTable;
 use plan_runner::{Plan, parse};
@@ -24,15 +24,15 @@ pub fn verify_from<
     H: Net<Listener = TcpListener, Stream = TcpStream> + Clock + Files<File = File> + AllocGlobal,
     R: ByteIn,
     W: ByteOut,
->(site: &Site<'_, H>, start: &Start, reader: &mut R, writer: &mut W) -> u8
+>(system: &System<'_, H>, start: &Start, reader: &mut R, writer: &mut W) -> u8
     requires { IsStart start.now }
     ensures { VerifiesFrom
         (record { gave = R.gave; ends = R.ends; failures = R.failures; before = reader.old; after = reader.new })
         (record { took = W.took; failures = W.failures; before = writer.old; after = writer.new }) result start.now }
 {
     match start {
-        Start::Even(sizes) => verify_plan(site.alloc, *sizes, reader, writer),
-        Start::Cluster(words) => verify_at(site, words, reader, writer),
+        Start::Even(sizes) => verify_plan(system.alloc, *sizes, reader, writer),
+        Start::Cluster(words) => verify_at(system, words, reader, writer),
     }
 }
 

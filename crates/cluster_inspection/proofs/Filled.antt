@@ -3,7 +3,7 @@ use Rattle.std.proofs.Common.{◌≡◌, ◌∙◌, ℕ, ◌+◌, ◌<◌, ◌�
 use Rattle.std.proofs.lemmas.Bool.Decides.{eqb_tells}
 use Rattle.std.specs.Prelude.{◌==◌}
 use Rattle.cluster_inspection.specs.Stranded.{with_some}
-use Rattle.server_clusters.specs.Questions.{no_owner}
+use Rattle.slot_key_counts.specs.Questions.{no_owner}
 
 -- the slots below this one have the owners that are wanted, and the others have none
 pub record AreFilled (wanted : ℕ → Option ℕ) (k : ℕ) (owners : ℕ → Option ℕ) : Type 0 where

@@ -2,11 +2,11 @@
 use Rattle.std.proofs.Common.{◌≡◌, ◌∙◌, ℕ, zero, suc, ◌+◌, ◌*◌, ◌<◌, ◌≤◌, Bool, cond, length, Option, List, [], ◌∷◌, ◌++◌, Result, Ok, refl, ap, ap₂, subst, arith}
 use Rattle.cluster_views.specs.declared.fault.SurveyFault.{SurveyFault}
 use Rattle.cluster_admin.specs.Surveys.{Survey}
-use Rattle.server_clusters.specs.Questions.{asked_owner, asks_for, wants}
-use Rattle.server_clusters.specs.Rounds.{AreAsked, AreRounds, IsRound, Talk, Told, Wants, batch, nothing, talk}
-use Rattle.server_clusters.specs.declared.questions.AskedNodes.{AskedNodes}
-use Rattle.server_clusters.specs.declared.questions.AskedNodes.TheVariants.{Others}
-use Rattle.server_clusters.specs.declared.questions.SlotQuestions.{SlotQuestions}
+use Rattle.slot_key_counts.specs.Questions.{asked_owner, asks_for, wants}
+use Rattle.slot_key_counts.specs.Rounds.{AreAsked, AreRounds, IsRound, Talk, Told, Wants, batch, nothing, talk}
+use Rattle.slot_key_counts.specs.declared.questions.AskedNodes.{AskedNodes}
+use Rattle.slot_key_counts.specs.declared.questions.AskedNodes.TheVariants.{Others}
+use Rattle.slot_key_counts.specs.declared.questions.SlotQuestions.{SlotQuestions}
 use Rattle.server_links.specs.Streams.{Streams}
 use Rattle.server_links.specs.declared.link.Link as link
 use Rattle.server_phases.specs.ServerPhases.{ServerPhases, ShowsPhases}

@@ -4,8 +4,8 @@ use Rattle.std.specs.Prelude.{⊤, ◌↔◌}
 use Rattle.byte_streams.specs.Streams.{Output}
 use Rattle.cluster_views.specs.Surveying.{IsSurveyed, Views}
 use Rattle.cluster_admin.specs.Surveys.{Survey}
-use Rattle.server_clusters.specs.Rounds.{Told}
-use Rattle.server_clusters.specs.Tables.{told_in}
+use Rattle.slot_key_counts.specs.Rounds.{Told}
+use Rattle.slot_key_counts.specs.Tables.{told_in}
 use Rattle.server_commands.specs.declared.book.Server.{Server}
 use Rattle.server_phases.specs.ServerPhases.{ServerPhases, ShowsPhases}
 use Rattle.server_phases.specs.Stranded.{ArePut, AreStranded, IsNodeText, IsStrandedText}

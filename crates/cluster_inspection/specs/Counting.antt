@@ -3,7 +3,7 @@ use Rattle.std.specs.Prelude.{◌≡◌, ◌⊎◌, ℕ, List, Result, Err, None
 use Rattle.cluster_views.specs.declared.fault.SurveyFault.{SurveyFault}
 use Rattle.cluster_views.specs.declared.fault.SurveyFault.TheVariants as fault
 use Rattle.server_links.specs.Exchanges.{Answer}
-use Rattle.server_clusters.specs.Counting.{IsCounted}
+use Rattle.slot_key_counts.specs.Counting.{IsCounted}
 use Rattle.server_links.specs.Asking.{AsksAt}
 
 -- the node is asked over its own connection, and this is what its answer says; or it has none

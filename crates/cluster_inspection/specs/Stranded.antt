@@ -2,9 +2,9 @@
 use Rattle.std.specs.Prelude.{◌≡◌, ◌↔◌, ◌⊎◌, ⊤, ℕ, List, [], Option, None, Some, length}
 use Rattle.cluster_views.specs.Surveying.{IsSurveyed, Views}
 use Rattle.cluster_admin.specs.Surveys.{Survey}
-use Rattle.server_clusters.specs.Questions.{asks_for, with_owner}
-use Rattle.server_clusters.specs.Rounds.{AreAsked, Told, Wants, talk}
-use Rattle.server_clusters.specs.declared.questions.AskedNodes.TheVariants.{Others}
+use Rattle.slot_key_counts.specs.Questions.{asks_for, with_owner}
+use Rattle.slot_key_counts.specs.Rounds.{AreAsked, Told, Wants, talk}
+use Rattle.slot_key_counts.specs.declared.questions.AskedNodes.TheVariants.{Others}
 use Rattle.server_commands.specs.declared.book.Server.{Server}
 use Rattle.server_links.specs.declared.link.Link as link
 use Rattle.server_phases.specs.ServerPhases.{ServerPhases, ShowsPhases}

@@ -3,7 +3,7 @@ ghost use Rattle.std.specs.Prelude.{◌≡◌, ◌↔◌, IfErr, IfOk, IsNone, N
 ghost use Rattle.cluster_inspection.specs.Starts.{IsExpectedBy, IsUnfound};
 
 use crate::no_cluster::{NoCluster, unsurveyed};
-use crate::site::Site;
+use crate::system::System;
 use cluster_survey::FoundCluster;
 use command_words::ClusterWords;
 use key_slots::NodeId;
@@ -13,7 +13,7 @@ use survey_texts::{ExpectFault, expected};
 
 /// The cluster, if each name stands for the node for which it stands in the file that the words name.
 pub(crate) fn as_expected<H: Files<File = File> + AllocGlobal, I: Drop, O: Drop>(
-    site: &Site<'_, H>,
+    system: &System<'_, H>,
     words: &ClusterWords,
     servers: FoundCluster<I, O>,
 ) -> Result<FoundCluster<I, O>, NoCluster>
@@ -24,16 +24,16 @@ pub(crate) fn as_expected<H: Files<File = File> + AllocGlobal, I: Drop, O: Drop>
     let Some(path) = &words.expect else {
         return Ok(servers);
     };
-    let reason = match fs::read(site.rt, path.as_str()) {
+    let reason = match fs::read(system.rt, path.as_str()) {
         Ok(text) => other_than(
-            site.alloc,
-            expected(site.alloc, &servers.book, text.as_slice()),
+            system.alloc,
+            expected(system.alloc, &servers.book, text.as_slice()),
         )?,
-        Err(error) => Some(format!(in site.alloc; "{path} could not be read: {error}")?),
+        Err(error) => Some(format!(in system.alloc; "{path} could not be read: {error}")?),
     };
     match reason {
         None => Ok(servers),
-        Some(reason) => Err(unsurveyed(site.alloc, reason.as_bytes())?),
+        Some(reason) => Err(unsurveyed(system.alloc, reason.as_bytes())?),
     }
 }
 

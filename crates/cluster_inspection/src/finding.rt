@@ -8,7 +8,7 @@ ghost use Rattle.node_names.specs.Names.{AreNames};
 
 use crate::expected::as_expected;
 use crate::no_cluster::{NoCluster, unsurveyed};
-use crate::site::Site;
+use crate::system::System;
 use cluster_survey::{ClusterFault, FoundCluster, Reach, find};
 use cluster_views::SurveyFault;
 use command_words::ClusterWords;
@@ -46,9 +46,9 @@ pub struct Sockets<'a, H> {
 
 impl<'a, H> Sockets<'a, H> {
     /// Over these a server may take `waiting` milliseconds for each of its answers.
-    pub fn new(site: &Site<'a, H>, waiting: u64) -> Self {
+    pub fn new(system: &System<'a, H>, waiting: u64) -> Self {
         Self {
-            rt: site.rt,
+            rt: system.rt,
             waiting,
             began: None,
         }
@@ -98,7 +98,7 @@ pub fn find_cluster<
     'a,
     H: Net<Listener = TcpListener, Stream = TcpStream> + Clock + Files<File = File> + AllocGlobal,
 >(
-    site: &Site<'a, H>,
+    system: &System<'a, H>,
     words: &ClusterWords,
     names: &[(NodeId, NodeName)],
     waiting: u64,
@@ -112,11 +112,11 @@ pub fn find_cluster<
     ensures expected { IfOk result (λ f. IsExpectedBy words.now.expect f.book) }
     ensures unfound { IfErr result IsUnfound }
 {
-    let mut sockets = Sockets::new(site, waiting);
+    let mut sockets = Sockets::new(system, waiting);
     let addresses = words.addresses.as_slice();
-    match find(site.alloc, &mut sockets, addresses, names, site.credentials) {
-        Ok(servers) => as_expected(site, words, servers),
-        Err(fault) => Err(unfound(site.alloc, fault)?),
+    match find(system.alloc, &mut sockets, addresses, names, system.credentials) {
+        Ok(servers) => as_expected(system, words, servers),
+        Err(fault) => Err(unfound(system.alloc, fault)?),
     }
 }
 

@@ -2,7 +2,7 @@
 use byte_streams::{ByteIn, ByteOut};
 use cluster_views::SurveyFault;
 use key_slots::{NodeId, Slot};
-use server_clusters::keys_at;
+use slot_key_counts::keys_at;
 use server_links::Link;
 use server_phases::KeyCounts;
 use std::alloc::Global;
@@ -22,7 +22,7 @@ impl<I: ByteIn + Drop, O: ByteOut + Drop> LinkCounts<I, O> {
 
 impl<I: ByteIn + Drop, O: ByteOut + Drop> KeyCounts for LinkCounts<I, O> {
     ghost use Rattle.std.specs.Prelude.{Ok, Err};
-    ghost use Rattle.server_clusters.specs.Counting.{AsksCount};
+    ghost use Rattle.slot_key_counts.specs.Counting.{AsksCount};
     ghost use Rattle.cluster_inspection.specs.Counting.{IsCountedAt};
 
     ghost counts = { λ c n s k d.

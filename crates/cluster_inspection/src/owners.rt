@@ -7,7 +7,7 @@ ghost use Rattle.node_names.specs.Names.{AreNames};
 
 use crate::finding::{ASKING, find_cluster};
 use crate::no_cluster::{NoCluster, open_slots};
-use crate::site::Site;
+use crate::system::System;
 use cluster_survey::FoundCluster;
 use command_words::{ClusterWords, Start};
 use key_slots::{NodeId, OwnerTable};
@@ -22,7 +22,7 @@ use std::time::Clock;
 pub fn owners_at_start<
     H: Net<Listener = TcpListener, Stream = TcpStream> + Clock + Files<File = File> + AllocGlobal,
 >(
-    site: &Site<'_, H>,
+    system: &System<'_, H>,
     start: &Start,
     names: &[(NodeId, NodeName)],
 ) -> Result<(OwnerTable, Option<ServerBook>), NoCluster>
@@ -32,11 +32,11 @@ pub fn owners_at_start<
 {
     match start {
         Start::Even(sizes) => {
-            let owners = OwnerTable::even(site.alloc, sizes.nodes, sizes.owning)?;
+            let owners = OwnerTable::even(system.alloc, sizes.nodes, sizes.owning)?;
             Ok((owners, None))
         }
         Start::Cluster(words) => {
-            let (owners, book) = owners_of_cluster(site, words, names)?;
+            let (owners, book) = owners_of_cluster(system, words, names)?;
             Ok((owners, Some(book)))
         }
     }
@@ -46,7 +46,7 @@ pub fn owners_at_start<
 fn owners_of_cluster<
     H: Net<Listener = TcpListener, Stream = TcpStream> + Clock + Files<File = File> + AllocGlobal,
 >(
-    site: &Site<'_, H>,
+    system: &System<'_, H>,
     words: &ClusterWords,
     names: &[(NodeId, NodeName)],
 ) -> Result<(OwnerTable, ServerBook), NoCluster>
@@ -54,10 +54,10 @@ fn owners_of_cluster<
     ensures owners { IfOk result (λ r. AreNames names.now → AreOwnersOf names.now r.1 r.0) }
     ensures unfound { IfErr result IsUnfound }
 {
-    let servers = find_cluster(site, words, names, ASKING)?;
+    let servers = find_cluster(system, words, names, ASKING)?;
     let survey = &servers.surveyed.survey;
     if !survey.is_clean() {
-        return Err(open_slots(site.alloc)?);
+        return Err(open_slots(system.alloc)?);
     }
     let owners = survey.owners(NodeId::of(0)).try_copy()?;
     let FoundCluster { book, .. } = servers;

@@ -14,7 +14,7 @@ ghost use Rattle.transcripts.specs.RunTexts.{unsurveyed_text};
 use crate::finding::{ASKING, find_cluster, unfound};
 use crate::plan_reading::names_listed;
 use crate::refusal::{Refusal, refused};
-use crate::site::Site;
+use crate::system::System;
 use byte_streams::{ByteIn, ByteOut};
 use cluster_survey::{ClusterFault, FoundCluster};
 use cluster_views::SurveyFault;
@@ -37,7 +37,7 @@ pub fn check_returning<
     I: Drop,
     O: Drop,
 >(
-    site: &Site<'a, H>,
+    system: &System<'a, H>,
     words: &ApplyWords,
     servers: &FoundCluster<I, O>,
     given: &Plan,
@@ -57,9 +57,9 @@ pub fn check_returning<
     if servers.left_out.as_slice().is_empty() {
         return Ok(());
     }
-    let again = find_cluster(site, &words.cluster, names_listed(given), ASKING)?;
+    let again = find_cluster(system, &words.cluster, names_listed(given), ASKING)?;
     let dead = dead_ids(&words.dead_for_good);
-    check_targets(site.alloc, again, dead, plan.lines())
+    check_targets(system.alloc, again, dead, plan.lines())
 }
 
 /// The IDs of the masters that never return, with commas between them.

@@ -5,15 +5,15 @@ ghost use Rattle.cluster_inspection.specs.Stranded.{HasLines, HasStrandedLines, 
 ghost use Rattle.cluster_inspection.specs.Stranded.{closed_owner, with_some};
 ghost use Rattle.command_words.specs.Clusters.{IsAddressed};
 ghost use Rattle.cluster_survey.specs.Found.{IsFound};
-ghost use Rattle.server_clusters.specs.Questions.{asked_owner};
-ghost use Rattle.server_clusters.specs.Tables.{told_in};
-ghost use Rattle.server_clusters.specs.declared.questions.AskedNodes.TheVariants.{Others};
+ghost use Rattle.slot_key_counts.specs.Questions.{asked_owner};
+ghost use Rattle.slot_key_counts.specs.Tables.{told_in};
+ghost use Rattle.slot_key_counts.specs.declared.questions.AskedNodes.TheVariants.{Others};
 ghost use Rattle.server_phases.specs.ServerPhases.{ServerPhases, ShowsPhases};
 
 use crate::endings::{out_of_memory, report};
 use crate::finding::{ASKING, find_cluster};
 use crate::no_cluster::NoCluster;
-use crate::site::Site;
+use crate::system::System;
 use crate::survey::uncounted;
 use crate::table_counts::TableCounts;
 use byte_streams::{ByteIn, ByteOut};
@@ -21,7 +21,7 @@ use cluster_survey::FoundCluster;
 use cluster_views::{ServerSurvey, SurveyFault};
 use command_words::ClusterWords;
 use key_slots::{SLOTS, Slot};
-use server_clusters::{AskedNodes, KeyTable, SlotQuestions, ask_all};
+use slot_key_counts::{AskedNodes, KeyTable, SlotQuestions, ask_all};
 use server_links::{Link, ServerInput, ServerOutput};
 use server_phases::{ServerPhase, phase_at, put_stranded_lines};
 use std::alloc::{AllocError, Global};
@@ -37,14 +37,14 @@ pub fn tell_stranded<
     'a,
     H: Net<Listener = TcpListener, Stream = TcpStream> + Clock + Files<File = File> + AllocGlobal,
     W: ByteOut,
->(site: &Site<'a, H>, words: &ClusterWords, writer: &mut W) -> u8
+>(system: &System<'a, H>, words: &ClusterWords, writer: &mut W) -> u8
     requires { IsAddressed words.now }
     ensures { Tells (SaysStranded (TellsKeys (record {
       gave = ⟦<ServerInput<'a, H> as ByteIn>⟧.gave;
       took = ⟦<ServerOutput<'a, H> as ByteOut>⟧.took;
     }))) (record { took = W.took; failures = W.failures; before = writer.old; after = writer.new }) result }
 {
-    match stranded_answer(site, words) {
+    match stranded_answer(system, words) {
         Ok(answer) => report(&answer, writer),
         Err(AllocError) => out_of_memory(writer),
     }
@@ -54,7 +54,7 @@ pub fn tell_stranded<
 fn stranded_answer<
     'a,
     H: Net<Listener = TcpListener, Stream = TcpStream> + Clock + Files<File = File> + AllocGlobal,
->(site: &Site<'a, H>, words: &ClusterWords) -> Result<Transcript, AllocError>
+>(system: &System<'a, H>, words: &ClusterWords) -> Result<Transcript, AllocError>
     requires { IsAddressed words.now }
     ensures status { IfOk result (λ t. t.status ≤ 1) }
     ensures says { IfOk result (λ t. SaysStranded (TellsKeys (record {
@@ -62,12 +62,12 @@ fn stranded_answer<
       took = ⟦<ServerOutput<'a, H> as ByteOut>⟧.took;
     })) t.status t.printed.items) }
 {
-    let servers = match find_cluster(site, words, &[], ASKING) {
+    let servers = match find_cluster(system, words, &[], ASKING) {
         Ok(servers) => servers,
         Err(NoCluster::Memory) => return Err(AllocError),
         Err(NoCluster::Answer(answer)) => return Ok(answer),
     };
-    lines_of(site.alloc, servers)
+    lines_of(system.alloc, servers)
 }
 
 /// The lines, or why keys could not be counted.

@@ -16,7 +16,7 @@ use crate::finding::{ASKING, Sockets, find_cluster};
 use crate::link_counts::LinkCounts;
 use crate::no_cluster::NoCluster;
 use crate::showing::show_servers;
-use crate::site::Site;
+use crate::system::System;
 use crate::stranded::tell_stranded;
 use byte_streams::{ByteIn, ByteOut};
 use cluster_survey::{FoundCluster, Reach};
@@ -45,7 +45,7 @@ pub fn survey_cluster<
     H: Net<Listener = TcpListener, Stream = TcpStream> + Clock + Files<File = File> + AllocGlobal,
     W: ByteOut,
     E: ByteOut,
->(site: &Site<'a, H>, words: &SurveyWords, writer: &mut W, errors: &mut E) -> u8
+>(system: &System<'a, H>, words: &SurveyWords, writer: &mut W, errors: &mut E) -> u8
     requires { IsAddressed words.now.cluster }
     ensures tells { Surveys
         (SaysSurvey (telling_of (record {
@@ -63,8 +63,8 @@ pub fn survey_cluster<
         (record { took = E.took; failures = E.failures; before = errors.old; after = errors.new }) }
     ensures status { result ≤ 1 }
 {
-    let status = print_survey(site, words, writer, errors);
-    look_if_clean(site, words, status, writer)
+    let status = print_survey(system, words, writer, errors);
+    look_if_clean(system, words, status, writer)
 }
 
 /// What of each master the words ask for.
@@ -83,7 +83,7 @@ fn look_if_clean<
     'a,
     H: Net<Listener = TcpListener, Stream = TcpStream> + Clock + Files<File = File> + AllocGlobal,
     W: ByteOut,
->(site: &Site<'a, H>, words: &SurveyWords, status: u8, writer: &mut W) -> u8
+>(system: &System<'a, H>, words: &SurveyWords, status: u8, writer: &mut W) -> u8
     requires addressed { IsAddressed words.now.cluster }
     requires before { status ≤ 1 }
     ensures looks { LooksIfClean (SaysStranded (TellsKeys (record {
@@ -97,7 +97,7 @@ fn look_if_clean<
         if status != 0 {
             return status;
         }
-        tell_stranded(site, &words.cluster, writer)
+        tell_stranded(system, &words.cluster, writer)
     } else {
         status
     }
@@ -109,7 +109,7 @@ fn print_survey<
     H: Net<Listener = TcpListener, Stream = TcpStream> + Clock + Files<File = File> + AllocGlobal,
     W: ByteOut,
     E: ByteOut,
->(site: &Site<'a, H>, words: &SurveyWords, writer: &mut W, errors: &mut E) -> u8
+>(system: &System<'a, H>, words: &SurveyWords, writer: &mut W, errors: &mut E) -> u8
     requires { IsAddressed words.now.cluster }
     ensures tells { Tells (SaysSurvey (telling_of (record {
       gave = ⟦<ServerInput<'a, H> as ByteIn>⟧.gave;
@@ -120,7 +120,7 @@ fn print_survey<
     ensures shows { (errors.new ≡ errors.old) ⊎ ShowsVersions
         (record { took = E.took; failures = E.failures; before = errors.old; after = errors.new }) }
 {
-    match survey_answer(site, words, errors) {
+    match survey_answer(system, words, errors) {
         Ok(answer) => report(&answer, writer),
         Err(AllocError) => out_of_memory(writer),
     }
@@ -131,7 +131,7 @@ fn survey_answer<
     'a,
     H: Net<Listener = TcpListener, Stream = TcpStream> + Clock + Files<File = File> + AllocGlobal,
     E: ByteOut,
->(site: &Site<'a, H>, words: &SurveyWords, errors: &mut E) -> Result<Transcript, AllocError>
+>(system: &System<'a, H>, words: &SurveyWords, errors: &mut E) -> Result<Transcript, AllocError>
     requires { IsAddressed words.now.cluster }
     ensures status { IfOk result (λ t. t.status ≤ 1) }
     ensures says { IfOk result (λ t. SaysSurvey (telling_of (record {
@@ -143,17 +143,17 @@ fn survey_answer<
     ensures shows { (errors.new ≡ errors.old) ⊎ ShowsVersions
         (record { took = E.took; failures = E.failures; before = errors.old; after = errors.new }) }
 {
-    let servers = match find_cluster(site, &words.cluster, &[], ASKING) {
+    let servers = match find_cluster(system, &words.cluster, &[], ASKING) {
         Ok(servers) => servers,
         Err(NoCluster::Memory) => return Err(AllocError),
         Err(NoCluster::Answer(answer)) => return Ok(answer),
     };
     let details = details_of(words);
-    let mut sockets = Sockets::new(site, ASKING);
+    let mut sockets = Sockets::new(system, ASKING);
     text_of(
-        site.alloc,
+        system.alloc,
         &mut sockets,
-        site.credentials,
+        system.credentials,
         servers,
         details,
         errors,

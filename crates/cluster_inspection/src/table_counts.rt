@@ -3,7 +3,7 @@ ghost use Rattle.std.specs.Prelude.{◌≡◌};
 
 use cluster_views::SurveyFault;
 use key_slots::{NodeId, Slot};
-use server_clusters::KeyTable;
+use slot_key_counts::KeyTable;
 use server_phases::KeyCounts;
 
 /// Reads keys that were told.
@@ -23,7 +23,7 @@ impl TableCounts {
 impl KeyCounts for TableCounts {
     ghost use Rattle.std.specs.Prelude.{◌≡◌, None, Some};
     ghost use Rattle.cluster_views.specs.declared.fault.SurveyFault.TheVariants.{NoAnswer};
-    ghost use Rattle.server_clusters.specs.Tables.{told_in};
+    ghost use Rattle.slot_key_counts.specs.Tables.{told_in};
 
     ghost counts = { λ c n s k d. (told_in c.table n s ≡ Some k) × (told_in d.table ≡ told_in c.table) };
 

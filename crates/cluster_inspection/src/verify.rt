@@ -14,14 +14,14 @@ use crate::finding::{ASKING, find_cluster, unfound};
 use crate::no_cluster::open_slots;
 use crate::plan_reading::{names_listed, plan_in};
 use crate::refusal::{Refusal, report_refusal};
-use crate::site::Site;
+use crate::system::System;
 use byte_streams::{ByteIn, ByteOut};
 use cluster_survey::{ClusterFault, FoundCluster};
 use command_words::ClusterWords;
 use key_slots::NodeId;
 use plan_changes::PlanLoad;
 use plan_runner::Plan;
-use server_clusters::key_counts;
+use slot_key_counts::key_counts;
 use std::alloc::Global;
 use std::fs::{File, Files};
 use std::net::{Net, TcpListener, TcpStream};
@@ -36,13 +36,13 @@ pub fn verify_at<
     H: Net<Listener = TcpListener, Stream = TcpStream> + Clock + Files<File = File> + AllocGlobal,
     R: ByteIn,
     W: ByteOut,
->(site: &Site<'_, H>, words: &ClusterWords, reader: &mut R, writer: &mut W) -> u8
+>(system: &System<'_, H>, words: &ClusterWords, reader: &mut R, writer: &mut W) -> u8
     requires { IsAddressed words.now }
     ensures { VerifiesAt
         (record { gave = R.gave; ends = R.ends; failures = R.failures; before = reader.old; after = reader.new })
         (record { took = W.took; failures = W.failures; before = writer.old; after = writer.new }) result }
 {
-    match answer_at(site, words, reader) {
+    match answer_at(system, words, reader) {
         Ok(answer) => report(&answer, writer),
         Err(refusal) => report_refusal(refusal, writer),
     }
@@ -52,18 +52,18 @@ pub fn verify_at<
 fn answer_at<
     H: Net<Listener = TcpListener, Stream = TcpStream> + Clock + Files<File = File> + AllocGlobal,
     R: ByteIn,
->(site: &Site<'_, H>, words: &ClusterWords, reader: &mut R) -> Result<Transcript, Refusal>
+>(system: &System<'_, H>, words: &ClusterWords, reader: &mut R) -> Result<Transcript, Refusal>
     requires { IsAddressed words.now }
     ensures refusal { IfErr result IsRefusal }
     ensures says { IfOk result (λ t. (input : List ℕ) × IsWholeInput R.gave R.ends reader.old reader.new input
         × IsAnswerAt input t.status t.printed.items) }
 {
-    let plan = plan_in(site.alloc, reader)?;
-    let servers = find_cluster(site, words, names_listed(&plan), ASKING)?;
+    let plan = plan_in(system.alloc, reader)?;
+    let servers = find_cluster(system, words, names_listed(&plan), ASKING)?;
     if !servers.surveyed.survey.is_clean() {
-        return Err(Refusal::from(open_slots(site.alloc)?));
+        return Err(Refusal::from(open_slots(system.alloc)?));
     }
-    answer_of(site.alloc, servers, plan)
+    answer_of(system.alloc, servers, plan)
 }
 
 /// What there is to say of the plan, by what the servers say.

@@ -48,7 +48,7 @@ IsTold true n end told =
 
 -- ---- one run
 
--- what connections give and take, what the surroundings do, and what the log takes
+-- what connections give and take, what the run_context do, and what the log takes
 pub record Ways (I O S L : Type 0) : Type 1 where
   pub gave : I → ℕ → List ℕ → I → Type 0
   pub took : O → List ℕ → O → Type 0

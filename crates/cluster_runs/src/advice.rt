@@ -4,7 +4,7 @@ ghost use Rattle.command_words.specs.Clusters.{IsAddressed};
 use crate::shell_words::put_quoted;
 use byte_streams::{ByteIn, ByteOut, write_whole};
 use cluster_admin::{AdminCommand, AdminReply};
-use cluster_inspection::{ASKING, Site, find_cluster};
+use cluster_inspection::{ASKING, System, find_cluster};
 use cluster_survey::FoundCluster;
 use command_words::ApplyWords;
 use key_slots::{NodeId, SLOTS, Slot};
@@ -66,7 +66,7 @@ pub(crate) fn tell_rest<
     H: Net<Listener = TcpListener, Stream = TcpStream> + Clock + Files<File = File> + AllocGlobal,
     E: ByteOut,
 >(
-    site: &Site<'_, H>,
+    system: &System<'_, H>,
     words: &ApplyWords,
     rest: Rest<'_>,
     names: &[(NodeId, NodeName)],
@@ -78,7 +78,7 @@ pub(crate) fn tell_rest<
     if status == 0 {
         return;
     }
-    if let Ok(line) = rest_line(site, words, rest, names) {
+    if let Ok(line) = rest_line(system, words, rest, names) {
         let _told = write_whole(errors, line.as_slice());
     }
 }
@@ -87,16 +87,16 @@ pub(crate) fn tell_rest<
 fn rest_line<
     H: Net<Listener = TcpListener, Stream = TcpStream> + Clock + Files<File = File> + AllocGlobal,
 >(
-    site: &Site<'_, H>,
+    system: &System<'_, H>,
     words: &ApplyWords,
     rest: Rest<'_>,
     names: &[(NodeId, NodeName)],
 ) -> Result<Vec<u8>, AllocError>
     requires { IsAddressed words.now.cluster }
 {
-    let alloc = site.alloc;
+    let alloc = system.alloc;
     let mut keys = Vec::new(alloc);
-    let mut line = match find_cluster(site, &words.cluster, names, ASKING) {
+    let mut line = match find_cluster(system, &words.cluster, names, ASKING) {
         Ok(servers) => open_text(alloc, servers, &mut keys)?,
         Err(_) => Vec::from_slice(alloc, b"what is open is not known")?,
     };

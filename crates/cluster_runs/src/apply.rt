@@ -10,7 +10,7 @@ use crate::prepared::Prepared;
 use crate::preparing::prepare;
 use crate::runs::carry_out;
 use byte_streams::{ByteIn, ByteOut, write_whole};
-use cluster_inspection::{Site, names_listed, out_of_memory, report, report_refusal};
+use cluster_inspection::{System, names_listed, out_of_memory, report, report_refusal};
 use command_words::ApplyWords;
 use plan_runner::Plan;
 use server_links::{ServerInput, ServerOutput};
@@ -30,18 +30,18 @@ pub fn apply_plan<
     R: ByteIn,
     W: ByteOut,
     E: ByteOut,
->(site: &Site<'_, H>, words: &ApplyWords, reader: &mut R, writer: &mut W, errors: &mut E) -> u8
+>(system: &System<'_, H>, words: &ApplyWords, reader: &mut R, writer: &mut W, errors: &mut E) -> u8
     requires { IsApply words.now }
     ensures { Applies words.now.plan
         (record { gave = R.gave; ends = R.ends; failures = R.failures; before = reader.old; after = reader.new })
         (record { took = W.took; failures = W.failures; before = writer.old; after = writer.new }) result }
 {
-    match prepare(site, words, reader) {
+    match prepare(system, words, reader) {
         Ok((prepared, count, plan)) => {
             let attempt = Attempt::new(words.timeout, batch_of(&plan));
             let rest = Rest::of_plan(plan.version(), &words.plan);
             run(
-                site, words, prepared, &count, &plan, attempt, rest, writer, errors,
+                system, words, prepared, &count, &plan, attempt, rest, writer, errors,
             )
         }
         Err(refusal) => report_refusal(refusal, writer),
@@ -55,7 +55,7 @@ pub(crate) fn run<
     W: ByteOut,
     E: ByteOut,
 >(
-    site: &Site<'a, H>,
+    system: &System<'a, H>,
     words: &ApplyWords,
     prepared: Prepared<ServerInput<'a, H>, ServerOutput<'a, H>>,
     count: &Transcript,
@@ -72,10 +72,10 @@ pub(crate) fn run<
     if write_whole(writer, count.printed.as_slice()).is_err() {
         return 1;
     }
-    match carry_out(site, words, prepared, lines, attempt, errors) {
+    match carry_out(system, words, prepared, lines, attempt, errors) {
         Ok(end) => {
             let status = report(&end, writer);
-            tell_rest(site, words, rest, names_listed(lines), end.status, errors);
+            tell_rest(system, words, rest, names_listed(lines), end.status, errors);
             status
         }
         Err(AllocError) => out_of_memory(writer),

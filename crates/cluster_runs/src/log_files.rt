@@ -4,7 +4,7 @@ ghost use Rattle.cluster_inspection.specs.Refusals.{IsRefusal};
 
 use crate::file_identity::clash;
 use byte_streams::StandardOut;
-use cluster_inspection::{Refusal, Site, refused};
+use cluster_inspection::{Refusal, System, refused};
 use command_words::ApplyWords;
 use server_runs::RunLog;
 use std::fs::{self, File, Files, OpenOptions};
@@ -30,7 +30,7 @@ pub(crate) enum Before {
 /// or a device. One that the command reads or looks for is refused, and is not opened: standard input, the file of
 /// `--plan`, that of `--expect`, and the stop file.
 pub(crate) fn open_log<H: Files<File = File> + AllocGlobal>(
-    site: &Site<'_, H>,
+    system: &System<'_, H>,
     words: &ApplyWords,
     before: Before,
 ) -> Result<Option<Log>, Refusal>
@@ -39,16 +39,16 @@ pub(crate) fn open_log<H: Files<File = File> + AllocGlobal>(
     let Some(path) = &words.log else {
         return Ok(None);
     };
-    if let Some(name) = clash(site.rt, path.as_str(), words) {
-        let reason = format!(in site.alloc; "--log {path} is {name}, too")?;
-        return Err(refused(site.alloc, reason.as_bytes())?);
+    if let Some(name) = clash(system.rt, path.as_str(), words) {
+        let reason = format!(in system.alloc; "--log {path} is {name}, too")?;
+        return Err(refused(system.alloc, reason.as_bytes())?);
     }
-    let is_cut = before == Before::Kept && ends_within_a_line(site.rt, path.as_str());
-    match options(before).open(site.rt, path.as_str()) {
+    let is_cut = before == Before::Kept && ends_within_a_line(system.rt, path.as_str());
+    match options(before).open(system.rt, path.as_str()) {
         Ok(file) => Ok(Some(continued_log(RunLog::new(StandardOut::new(file)), is_cut))),
         Err(error) => {
-            let reason = format!(in site.alloc; "{path} could not be written: {error}")?;
-            Err(refused(site.alloc, reason.as_bytes())?)
+            let reason = format!(in system.alloc; "{path} could not be written: {error}")?;
+            Err(refused(system.alloc, reason.as_bytes())?)
         }
     }
 }

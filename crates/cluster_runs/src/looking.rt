@@ -4,7 +4,7 @@ ghost use Rattle.cluster_runs.specs.Looking.{LooksFurther};
 ghost use Rattle.command_words.specs.Resuming.{IsResume};
 
 use byte_streams::{ByteIn, ByteOut};
-use cluster_inspection::{Site, tell_stranded};
+use cluster_inspection::{System, tell_stranded};
 use command_words::ResumeWords;
 use server_links::{ServerInput, ServerOutput};
 use std::fs::{File, Files};
@@ -18,7 +18,7 @@ pub(crate) fn look_further<
     'a,
     H: Net<Listener = TcpListener, Stream = TcpStream> + Clock + Files<File = File> + AllocGlobal,
     W: ByteOut,
->(site: &Site<'a, H>, words: &ResumeWords, status: u8, writer: &mut W) -> u8
+>(system: &System<'a, H>, words: &ResumeWords, status: u8, writer: &mut W) -> u8
     requires { IsResume words.now }
     ensures { LooksFurther (SaysStranded (TellsKeys (record {
       gave = ⟦<ServerInput<'a, H> as ByteIn>⟧.gave;
@@ -32,7 +32,7 @@ pub(crate) fn look_further<
             if status != 0 {
                 return status;
             }
-            tell_stranded(site, &words.run.cluster, writer)
+            tell_stranded(system, &words.run.cluster, writer)
         }
     }
 }

@@ -13,12 +13,12 @@ use crate::prepared::Prepared;
 use crate::trouble::{Trouble, trouble_in};
 use byte_streams::{ByteIn, ByteOut, StandardOut, write_whole};
 use cluster_admin::Survey;
-use cluster_inspection::{Site, copy_of};
+use cluster_inspection::{System, copy_of};
 use cluster_survey::FoundCluster;
 use command_words::ApplyWords;
 use plan_runner::VerifiedPlan;
 use redis_servers::{Pause, ServersPort, ServersSeat};
-use server_runs::{Pace, RunLog, Surroundings, Watch, apply, apply_in_one_go};
+use server_runs::{Pace, RunLog, RunContext, Watch, apply, apply_in_one_go};
 use std::alloc::{AllocError, Global};
 use std::fs::{File, Files};
 use std::time::Clock;
@@ -50,7 +50,7 @@ pub(crate) fn run_once<
     O: ByteOut + Drop,
     E: ByteOut,
 >(
-    site: &Site<'_, H>,
+    system: &System<'_, H>,
     words: &ApplyWords,
     attempt: &Attempt,
     prepared: Prepared<I, O>,
@@ -78,10 +78,10 @@ pub(crate) fn run_once<
     } = prepared;
     let _shown = write_whole(errors, notes.as_slice());
     let nodes = survey.nodes();
-    let port = port_of(site, servers, attempt.timeout, survey, words.wait_for_news)?;
-    let operator = Operator::new(site.rt, &words.stop_file, errors);
+    let port = port_of(system, servers, attempt.timeout, survey, words.wait_for_news)?;
+    let operator = Operator::new(system.rt, &words.stop_file, errors);
     let watch = Watch::new(
-        site.alloc,
+        system.alloc,
         operator,
         log,
         pace_of(words),
@@ -89,7 +89,7 @@ pub(crate) fn run_once<
         moves,
         counts,
     );
-    let ran = run_at(site.alloc, plan, port, watch, attempt.commands)?;
+    let ran = run_at(system.alloc, plan, port, watch, attempt.commands)?;
     Ok(ran)
 }
 
@@ -98,7 +98,7 @@ fn run_at<
     I: ByteIn + Drop,
     O: ByteOut + Drop,
     P: Pause + Drop,
-    S: Surroundings + Drop,
+    S: RunContext + Drop,
     L: ByteOut + Drop,
 >(
     alloc: Global,
@@ -144,7 +144,7 @@ fn carry_out_plan<
     I: ByteIn + Drop,
     O: ByteOut + Drop,
     P: Pause + Drop,
-    S: Surroundings + Drop,
+    S: RunContext + Drop,
     L: ByteOut + Drop,
 >(
     alloc: Global,
@@ -217,7 +217,7 @@ fn ended_unlogged(alloc: Global, end: &[u8]) -> Result<Vec<u8>, AllocError>
 /// A port to the servers, of which this is the survey, whose MIGRATEs take so many milliseconds at most, and which
 /// waits for news or not.
 fn port_of<'a, H: Clock, I: ByteIn + Drop, O: ByteOut + Drop>(
-    site: &Site<'a, H>,
+    system: &System<'a, H>,
     servers: FoundCluster<I, O>,
     timeout: u32,
     survey: Survey,
@@ -230,16 +230,16 @@ fn port_of<'a, H: Clock, I: ByteIn + Drop, O: ByteOut + Drop>(
     ensures open { IfOk result (λ p. p.has_stopped ≡ false) }
 {
     let FoundCluster { book, links, .. } = servers;
-    let credentials = copy_of(site.alloc, site.credentials)?;
+    let credentials = copy_of(system.alloc, system.credentials)?;
     ServersPort::new(
-        site.alloc,
+        system.alloc,
         links,
         book,
         timeout,
         credentials,
         survey,
         waits_for_news,
-        Patience::new(site.rt),
+        Patience::new(system.rt),
     )
 }
 

@@ -1,7 +1,7 @@
 //! The operator of a plan that runs: the clock, the stop file, and the screen.
 use byte_streams::{ByteOut, write_whole};
 use jiff::Timestamp;
-use server_runs::Surroundings;
+use server_runs::RunContext;
 use std::alloc::{AllocError, Global};
 use std::fs::{self, File, Files};
 use std::io::IsTerminal;
@@ -45,7 +45,7 @@ fn is_screen<H: Files<File = File>>(rt: &H) -> bool {
     }
 }
 
-impl<'a, H: Clock + Files<File = File>, E: ByteOut> Surroundings for Operator<'a, H, E> {
+impl<'a, H: Clock + Files<File = File>, E: ByteOut> RunContext for Operator<'a, H, E> {
     ghost use Rattle.std.specs.Prelude.{◌≡◌, false, true};
     ghost use Rattle.cluster_runs.specs.Operators.{clock_tells, clock_waits, stop_file_asks};
 

@@ -18,7 +18,7 @@ use crate::stop_files::check_stop_file;
 use byte_streams::{ByteIn, ByteOut};
 use cluster_admin::Survey;
 use cluster_inspection::{
-    Refusal, Site, check_returning, find_cluster, names_listed, open_slots, plan_in, plan_of,
+    Refusal, System, check_returning, find_cluster, names_listed, open_slots, plan_in, plan_of,
     refused,
 };
 use cluster_survey::FoundCluster;
@@ -49,7 +49,7 @@ pub(crate) fn prepare<
     H: Net<Listener = TcpListener, Stream = TcpStream> + Clock + Files<File = File> + AllocGlobal,
     R: ByteIn,
 >(
-    site: &Site<'a, H>,
+    system: &System<'a, H>,
     words: &ApplyWords,
     reader: &mut R,
 ) -> Result<
@@ -74,23 +74,23 @@ pub(crate) fn prepare<
     })) (dead_ids words.now.dead_for_good) (names_listed r.2) r.0.servers.left_out.items r.2.lines) }
     ensures refusal { IfErr result IsRefusal }
 {
-    let plan = plan_given(site, &words.plan, reader)?;
+    let plan = plan_given(system, &words.plan, reader)?;
     let waiting = u64::from(words.timeout) + SPARE;
-    let servers = find_cluster(site, &words.cluster, names_listed(&plan), waiting)?;
+    let servers = find_cluster(system, &words.cluster, names_listed(&plan), waiting)?;
     if !servers.surveyed.survey.is_clean() {
-        return Err(Refusal::from(open_slots(site.alloc)?));
+        return Err(Refusal::from(open_slots(system.alloc)?));
     }
     let copy = plan.try_copy()?;
-    let (prepared, count) = verified(site.alloc, servers, plan)?;
-    check_returning(site, words, &prepared.servers, &copy, &copy)?;
-    check_stop_file(site, words)?;
-    let log = open_log(site, words, Before::Cleared)?;
+    let (prepared, count) = verified(system.alloc, servers, plan)?;
+    check_returning(system, words, &prepared.servers, &copy, &copy)?;
+    check_stop_file(system, words)?;
+    let log = open_log(system, words, Before::Cleared)?;
     Ok((prepared.with_log(log), count, copy))
 }
 
 /// The plan in the file with this path, or else on standard input, which is read to its end then.
 fn plan_given<H: Files<File = File> + AllocGlobal, R: ByteIn>(
-    site: &Site<'_, H>,
+    system: &System<'_, H>,
     path: &Option<String>,
     reader: &mut R,
 ) -> Result<Plan, Refusal>
@@ -101,24 +101,24 @@ fn plan_given<H: Files<File = File> + AllocGlobal, R: ByteIn>(
     ensures refusal { IfErr result IsRefusal }
 {
     match path {
-        Some(path) => plan_in_file(site, path.as_str()),
-        None => plan_in(site.alloc, reader),
+        Some(path) => plan_in_file(system, path.as_str()),
+        None => plan_in(system.alloc, reader),
     }
 }
 
 /// The plan in the file with this path.
 pub(crate) fn plan_in_file<H: Files<File = File> + AllocGlobal>(
-    site: &Site<'_, H>,
+    system: &System<'_, H>,
     path: &str,
 ) -> Result<Plan, Refusal>
     ensures plan { IfOk result (λ plan. (text : List ℕ) × (any_plan_of_text text ≡ Ok plan)) }
     ensures refusal { IfErr result IsRefusal }
 {
-    match fs::read(site.rt, path) {
-        Ok(text) => plan_of(site.alloc, text.as_slice()),
+    match fs::read(system.rt, path) {
+        Ok(text) => plan_of(system.alloc, text.as_slice()),
         Err(error) => {
-            let reason = format!(in site.alloc; "{path} could not be read: {error}")?;
-            Err(refused(site.alloc, reason.as_bytes())?)
+            let reason = format!(in system.alloc; "{path} could not be read: {error}")?;
+            Err(refused(system.alloc, reason.as_bytes())?)
         }
     }
 }

@@ -19,7 +19,7 @@ use crate::settled_rests::settled;
 use crate::stop_files::check_stop_file;
 use byte_streams::{ByteIn, ByteOut};
 use cluster_inspection::{
-    Refusal, Site, check_returning, find_cluster, names_listed, plan_of, refused, report_refusal,
+    Refusal, System, check_returning, find_cluster, names_listed, plan_of, refused, report_refusal,
     show,
 };
 use command_words::ResumeWords;
@@ -43,14 +43,14 @@ pub fn resume_plan<
     H: Net<Listener = TcpListener, Stream = TcpStream> + Clock + Files<File = File> + AllocGlobal,
     W: ByteOut,
     E: ByteOut,
->(site: &Site<'_, H>, words: &ResumeWords, writer: &mut W, errors: &mut E) -> u8
+>(system: &System<'_, H>, words: &ResumeWords, writer: &mut W, errors: &mut E) -> u8
     requires { IsResume words.now }
     ensures status { result ≤ 3 }
     ensures resumes { Resumes words.now
         (record { took = W.took; failures = W.failures; before = writer.old; after = writer.new }) result }
 {
-    let status = go_on(site, words, writer, errors);
-    look_further(site, words, status, writer)
+    let status = go_on(system, words, writer, errors);
+    look_further(system, words, status, writer)
 }
 
 /// Closes open slots and continues with the plan, as far as there is something to do.
@@ -58,21 +58,21 @@ fn go_on<
     H: Net<Listener = TcpListener, Stream = TcpStream> + Clock + Files<File = File> + AllocGlobal,
     W: ByteOut,
     E: ByteOut,
->(site: &Site<'_, H>, words: &ResumeWords, writer: &mut W, errors: &mut E) -> u8
+>(system: &System<'_, H>, words: &ResumeWords, writer: &mut W, errors: &mut E) -> u8
     requires { IsResume words.now }
     ensures { GoesOn words.now
         (record { took = W.took; failures = W.failures; before = writer.old; after = writer.new }) result }
 {
-    let lines = match lines_of(site, &words.run.plan) {
+    let lines = match lines_of(system, &words.run.plan) {
         Ok(lines) => lines,
         Err(refusal) => return report_refusal(refusal, writer),
     };
     let attempt = Attempt::new(words.run.timeout, words.batch);
-    match prepared_rest(site, words, &lines, &attempt, errors) {
+    match prepared_rest(system, words, &lines, &attempt, errors) {
         Ok(Some((prepared, count))) => {
             let rest = Rest::of_file(&words.run.plan);
             run(
-                site, &words.run, prepared, &count, &lines, attempt, rest, writer, errors,
+                system, &words.run, prepared, &count, &lines, attempt, rest, writer, errors,
             )
         }
         Ok(None) => show(writer, CLEAN),
@@ -82,16 +82,16 @@ fn go_on<
 
 /// The plan in the file with this path, or one without a line.
 fn lines_of<H: Files<File = File> + AllocGlobal>(
-    site: &Site<'_, H>,
+    system: &System<'_, H>,
     path: &Option<String>,
 ) -> Result<Plan, Refusal>
     ensures lines { IfOk result (AreLinesOf path.now) }
     ensures refusal { IfErr result IsRefusal }
 {
     let Some(path) = path else {
-        return Ok(Plan::empty(site.alloc));
+        return Ok(Plan::empty(system.alloc));
     };
-    plan_in_file(site, path.as_str())
+    plan_in_file(system, path.as_str())
 }
 
 /// What closes the open slots, and moves what is left of the lines.
@@ -100,7 +100,7 @@ fn prepared_rest<
     H: Net<Listener = TcpListener, Stream = TcpStream> + Clock + Files<File = File> + AllocGlobal,
     E: ByteOut,
 >(
-    site: &Site<'a, H>,
+    system: &System<'a, H>,
     words: &ResumeWords,
     lines: &Plan,
     attempt: &Attempt,
@@ -125,13 +125,13 @@ fn prepared_rest<
     ensures refusal { IfErr result IsRefusal }
 {
     let waiting = u64::from(words.run.timeout) + SPARE;
-    let servers = find_cluster(site, &words.run.cluster, names_listed(lines), waiting)?;
-    let Some((prepared, count, plan)) = rest_of(site.alloc, servers, lines, attempt)? else {
+    let servers = find_cluster(system, &words.run.cluster, names_listed(lines), waiting)?;
+    let Some((prepared, count, plan)) = rest_of(system.alloc, servers, lines, attempt)? else {
         return Ok(None);
     };
-    check_returning(site, &words.run, &prepared.servers, lines, &plan)?;
-    check_stop_file(site, &words.run)?;
-    let log = open_log(site, &words.run, Before::Kept)?;
-    let prepared = settled(site, prepared, lines, attempt, log, errors)?;
+    check_returning(system, &words.run, &prepared.servers, lines, &plan)?;
+    check_stop_file(system, &words.run)?;
+    let log = open_log(system, &words.run, Before::Kept)?;
+    let prepared = settled(system, prepared, lines, attempt, log, errors)?;
     Ok(Some((prepared, count)))
 }

@@ -10,7 +10,7 @@ use crate::one_run::{FileRan, Ran, run_once};
 use crate::prepared::Prepared;
 use crate::settled_rests::prepare_again;
 use byte_streams::{ByteIn, ByteOut, StandardOut, write_whole};
-use cluster_inspection::{Refusal, Site};
+use cluster_inspection::{Refusal, System};
 use command_words::ApplyWords;
 use plan_runner::Plan;
 use server_links::{ServerInput, ServerOutput};
@@ -39,7 +39,7 @@ pub(crate) fn carry_out<
     H: Net<Listener = TcpListener, Stream = TcpStream> + Clock + Files<File = File> + AllocGlobal,
     E: ByteOut,
 >(
-    site: &Site<'a, H>,
+    system: &System<'a, H>,
     words: &ApplyWords,
     prepared: Prepared<ServerInput<'a, H>, ServerOutput<'a, H>>,
     lines: &Plan,
@@ -58,9 +58,9 @@ pub(crate) fn carry_out<
         })
         words.now attempt prepared.entry lines.now) }
 {
-    let ran = run_once(site, words, &attempt, prepared, errors)?;
+    let ran = run_once(system, words, &attempt, prepared, errors)?;
     let mut attempt = attempt;
-    let end = carry_on(site, words, ran, lines, &mut attempt, errors, MAX_ATTEMPTS)?;
+    let end = carry_on(system, words, ran, lines, &mut attempt, errors, MAX_ATTEMPTS)?;
     Ok(end)
 }
 
@@ -70,7 +70,7 @@ fn carry_on<
     H: Net<Listener = TcpListener, Stream = TcpStream> + Clock + Files<File = File> + AllocGlobal,
     E: ByteOut,
 >(
-    site: &Site<'a, H>,
+    system: &System<'a, H>,
     words: &ApplyWords,
     ran: FileRan,
     lines: &Plan,
@@ -93,11 +93,11 @@ fn carry_on<
     if left == 0 {
         return Ok(ran.end);
     }
-    let next = go_on(site, words, ran, lines, attempt, errors)?;
+    let next = go_on(system, words, ran, lines, attempt, errors)?;
     match next {
         Next::Over(end) => Ok(end),
         Next::Again(again) => {
-            let end = carry_on(site, words, again, lines, attempt, errors, left - 1)?;
+            let end = carry_on(system, words, again, lines, attempt, errors, left - 1)?;
             Ok(end)
         }
     }
@@ -111,7 +111,7 @@ fn go_on<
     H: Net<Listener = TcpListener, Stream = TcpStream> + Clock + Files<File = File> + AllocGlobal,
     E: ByteOut,
 >(
-    site: &Site<'a, H>,
+    system: &System<'a, H>,
     words: &ApplyWords,
     ran: FileRan,
     lines: &Plan,
@@ -141,8 +141,8 @@ fn go_on<
         return Ok(Next::Over(end));
     }
     let _told = write_whole(errors, end.printed.as_slice());
-    match prepare_again(site, words, lines, attempt, log, errors) {
-        Ok(prepared) => Ok(Next::Again(run_once(site, words, attempt, prepared, errors)?)),
+    match prepare_again(system, words, lines, attempt, log, errors) {
+        Ok(prepared) => Ok(Next::Again(run_once(system, words, attempt, prepared, errors)?)),
         Err(Refusal::Memory) => Err(AllocError),
         Err(Refusal::Unread) => Ok(Next::Over(end)),
         Err(Refusal::Answer(answer)) => {

@@ -22,7 +22,7 @@ use crate::targets::check_targets;
 use byte_streams::{ByteIn, ByteOut, MemoryOut, write_whole};
 use byte_texts::Parts;
 use cluster_inspection::{
-    Refusal, Site, check_returning, copy_of, find_cluster, names_listed, refused,
+    Refusal, System, check_returning, copy_of, find_cluster, names_listed, refused,
 };
 use cluster_survey::FoundCluster;
 use command_words::ApplyWords;
@@ -42,7 +42,7 @@ pub(crate) fn prepare_again<
     H: Net<Listener = TcpListener, Stream = TcpStream> + Clock + Files<File = File> + AllocGlobal,
     E: ByteOut,
 >(
-    site: &Site<'a, H>,
+    system: &System<'a, H>,
     words: &ApplyWords,
     lines: &Plan,
     attempt: &Attempt,
@@ -66,20 +66,20 @@ pub(crate) fn prepare_again<
     ensures refusal { IfErr result IsRefusal }
 {
     let waiting = u64::from(attempt.timeout) + SPARE;
-    let servers = find_cluster(site, &words.cluster, names_listed(lines), waiting)?;
-    match rest_of(site.alloc, servers, lines, attempt)? {
+    let servers = find_cluster(system, &words.cluster, names_listed(lines), waiting)?;
+    match rest_of(system.alloc, servers, lines, attempt)? {
         Some((prepared, _count, plan)) => {
-            check_returning(site, words, &prepared.servers, lines, &plan)?;
-            settled(site, prepared, lines, attempt, log, errors)
+            check_returning(system, words, &prepared.servers, lines, &plan)?;
+            settled(system, prepared, lines, attempt, log, errors)
         }
-        None => Err(refused(site.alloc, b"there is nothing to continue")?),
+        None => Err(refused(system.alloc, b"there is nothing to continue")?),
     }
 }
 
 /// Settles the open slots of a cluster before what is left of a plan runs there. What was found of each stands on
 /// `errors` and in the log.
 pub(crate) fn settled<H: Clock, I: ByteIn + Drop, O: ByteOut + Drop, E: ByteOut>(
-    site: &Site<'_, H>,
+    system: &System<'_, H>,
     prepared: Prepared<I, O>,
     lines: &Plan,
     attempt: &Attempt,
@@ -112,10 +112,10 @@ pub(crate) fn settled<H: Clock, I: ByteIn + Drop, O: ByteOut + Drop, E: ByteOut>
         notes,
         log: _,
     } = prepared;
-    let mut told = MemoryOut::new(site.alloc, usize::MAX);
-    let settling = settle(site, servers, lines, attempt, &mut told);
+    let mut told = MemoryOut::new(system.alloc, usize::MAX);
+    let settling = settle(system, servers, lines, attempt, &mut told);
     let _shown = write_whole(errors, told.bytes.as_slice());
-    let log = with_lines(site, log, told.bytes.as_slice());
+    let log = with_lines(system, log, told.bytes.as_slice());
     let (servers, counts) = settling?;
     Ok(Prepared {
         servers,
@@ -129,11 +129,11 @@ pub(crate) fn settled<H: Clock, I: ByteIn + Drop, O: ByteOut + Drop, E: ByteOut>
 }
 
 /// The log with these lines at its end, each with the time before it.
-fn with_lines<H: Clock>(site: &Site<'_, H>, log: Option<Log>, text: &[u8]) -> Option<Log> {
+fn with_lines<H: Clock>(system: &System<'_, H>, log: Option<Log>, text: &[u8]) -> Option<Log> {
     let mut log = log?;
     let mut lines = Parts::of(text, b'\n');
     while let Some(line) = lines.next_whole() {
-        match timed(site, line) {
+        match timed(system, line) {
             Ok(line) => log.write(line.as_slice()),
             Err(AllocError) => log.give_up(),
         }
@@ -142,8 +142,8 @@ fn with_lines<H: Clock>(site: &Site<'_, H>, log: Option<Log>, text: &[u8]) -> Op
 }
 
 /// The line with the time before it, and its end.
-fn timed<H: Clock>(site: &Site<'_, H>, line: &[u8]) -> Result<Vec<u8>, AllocError> {
-    let mut timed = time_of_day(site.rt, site.alloc)?;
+fn timed<H: Clock>(system: &System<'_, H>, line: &[u8]) -> Result<Vec<u8>, AllocError> {
+    let mut timed = time_of_day(system.rt, system.alloc)?;
     timed.push(b' ')?;
     timed.extend_from_slice(line)?;
     timed.push(b'\n')?;
@@ -152,7 +152,7 @@ fn timed<H: Clock>(site: &Site<'_, H>, line: &[u8]) -> Result<Vec<u8>, AllocErro
 
 /// The servers once each open slot is settled, and what is open.
 fn settle<H: Clock, I: ByteIn + Drop, O: ByteOut + Drop, E: ByteOut>(
-    site: &Site<'_, H>,
+    system: &System<'_, H>,
     servers: FoundCluster<I, O>,
     lines: &Plan,
     attempt: &Attempt,
@@ -178,16 +178,16 @@ fn settle<H: Clock, I: ByteIn + Drop, O: ByteOut + Drop, E: ByteOut>(
     let setup = SettleSetup {
         book,
         timeout: attempt.timeout,
-        credentials: copy_of(site.alloc, site.credentials)?,
+        credentials: copy_of(system.alloc, system.credentials)?,
         batch: attempt.batch,
     };
     let survey = &surveyed.survey;
-    let counts = settle_open(site.rt, site.alloc, &mut links, survey, &setup, told)?;
+    let counts = settle_open(system.rt, system.alloc, &mut links, survey, &setup, told)?;
     check_targets(
-        site.alloc,
+        system.alloc,
         &mut links,
         survey,
-        site.credentials,
+        system.credentials,
         lines.lines(),
     )?;
     let SettleSetup { book, .. } = setup;

@@ -16,7 +16,7 @@ use Rattle.std.proofs.lemmas.List.Sorted.{IsPermutation-refl, IsPermutation-swap
 use Rattle.std.proofs.lemmas.List.Sorted.{length_permutation, list_any-IsPermutation}
 use Rattle.std.proofs.lemmas.List.Sums.{fails_before_first}
 use Rattle.byte_texts.specs.Words.{is}
-use Rattle.cluster_nodes.specs.declared.node_line.NodeLine.{NodeLine}
+use Rattle.listed_nodes.specs.declared.node_line.NodeLine.{NodeLine}
 use Rattle.node_names.specs.Names.{AreNames, AreNext, IsNext, Names, are_below, has_name}
 use Rattle.server_commands.specs.Servers.{nobody, server_at}
 use Rattle.server_commands.specs.declared.book.Server.{Server}

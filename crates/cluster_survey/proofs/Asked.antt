@@ -6,7 +6,7 @@ use Rattle.std.proofs.lemmas.Bool.{cases_lt}
 use Rattle.std.proofs.lemmas.List.{get_or_append_left, get_or_default, get_or-set_other, get_or-set_same, length-append}
 use Rattle.std.proofs.lemmas.List.{length-set}
 use Rattle.std.proofs.Math.Seq.{get_or-append_seam}
-use Rattle.cluster_nodes.specs.declared.node_line.NodeLine.{NodeLine}
+use Rattle.listed_nodes.specs.declared.node_line.NodeLine.{NodeLine}
 use Rattle.server_links.specs.Exchanges.{Answer}
 use Rattle.server_commands.specs.declared.book.Server.{Server}
 use Rattle.cluster_survey.specs.Asking.{AreAsked, IsStopped, IsUnsurveyed, IsViewed, View}

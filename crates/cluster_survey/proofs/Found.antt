@@ -1,7 +1,7 @@
 -- What was found, and the masters that were left out.
 use Rattle.std.proofs.Common.{◌≡◌, ℕ, List, Option, length}
 use Rattle.std.specs.declared.net.socket_addr.SocketAddrV4.{SocketAddrV4}
-use Rattle.cluster_nodes.specs.declared.node_line.NodeLine.{NodeLine}
+use Rattle.listed_nodes.specs.declared.node_line.NodeLine.{NodeLine}
 use Rattle.cluster_admin.specs.Surveys as surveys
 use Rattle.node_names.specs.Names.{Names}
 use Rattle.server_commands.specs.declared.book.Server.{Server}

@@ -2,7 +2,7 @@
 use Rattle.std.specs.Prelude.{ℕ, ◌+◌, ◌*◌, List, [], ◌∷◌, Option, Some, None, option_map}
 use Rattle.byte_texts.specs.Decimals.{number_in}
 use Rattle.byte_texts.specs.Parts.{parts}
-use Rattle.cluster_nodes.specs.Names.{if_there}
+use Rattle.listed_nodes.specs.Names.{if_there}
 use Rattle.server_commands.specs.declared.book.Server.{Server}
 
 abbrev pub part_in : List ℕ → Option ℕ

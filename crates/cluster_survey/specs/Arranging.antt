@@ -2,7 +2,7 @@
 use Rattle.std.specs.Prelude.{◌≡◌, ◌⊎◌, ℕ, ◌<◌, cond, nat_le, List, [], ◌∷◌, Option, Some, None, All, is_none, length}
 use Rattle.std.specs.List.{list_any, swap}
 use Rattle.byte_texts.specs.Words.{is}
-use Rattle.cluster_nodes.specs.declared.node_line.NodeLine.{NodeLine}
+use Rattle.listed_nodes.specs.declared.node_line.NodeLine.{NodeLine}
 use Rattle.cluster_survey.specs.Masters.{AreMastersOf, IsMastersFault}
 use Rattle.cluster_views.specs.Numbers.{first_given}
 use Rattle.cluster_views.specs.Views.{number_of}

@@ -1,8 +1,8 @@
 -- How the servers are asked for their views: CLUSTER NODES, once each.
 use Rattle.std.specs.Prelude.{◌≡◌, ◌⊎◌, ℕ, ◌<◌, ◌≤◌, List, length, Ok, Err, Result, slice_index_or, slice_set}
 use Rattle.std.specs.Option.{ok_or}
-use Rattle.cluster_nodes.specs.Nodes.{nodes_of_text}
-use Rattle.cluster_nodes.specs.declared.node_line.NodeLine.{NodeLine}
+use Rattle.listed_nodes.specs.Nodes.{nodes_of_text}
+use Rattle.listed_nodes.specs.declared.node_line.NodeLine.{NodeLine}
 use Rattle.server_links.specs.Exchanges.{Answer}
 use Rattle.cluster_views.specs.Faults.{error_fault}
 use Rattle.cluster_views.specs.Surveying.{IsRefused, Views, view_at}

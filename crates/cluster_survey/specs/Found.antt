@@ -1,7 +1,7 @@
 -- A cluster of servers that was found.
 use Rattle.std.specs.Prelude.{◌≡◌, ◌⊎◌, ℕ, List, Option, length}
 use Rattle.std.specs.declared.net.socket_addr.SocketAddrV4.{SocketAddrV4}
-use Rattle.cluster_nodes.specs.declared.node_line.NodeLine.{NodeLine}
+use Rattle.listed_nodes.specs.declared.node_line.NodeLine.{NodeLine}
 use Rattle.cluster_survey.specs.Agreeing.{Agree, Disagree}
 use Rattle.cluster_survey.specs.Arranging.{AreArranged, AreUnarranged}
 use Rattle.cluster_survey.specs.Linking.{AreLinked, AreUnlinked}

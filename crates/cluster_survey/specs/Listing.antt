@@ -1,7 +1,7 @@
 -- The first of some servers that lists the nodes of its cluster.
 use Rattle.std.specs.Prelude.{◌≡◌, ◌⊎◌, ⊤, List, [], ◌∷◌, Ok, Err, Option}
 use Rattle.std.specs.declared.net.socket_addr.SocketAddrV4.{SocketAddrV4}
-use Rattle.cluster_nodes.specs.declared.node_line.NodeLine.{NodeLine}
+use Rattle.listed_nodes.specs.declared.node_line.NodeLine.{NodeLine}
 use Rattle.cluster_survey.specs.Asking.{IsViewed}
 use Rattle.cluster_survey.specs.Opening.{IsOpenTo, IsUnopened}
 use Rattle.cluster_survey.specs.declared.cluster_fault.ClusterFault.{ClusterFault}

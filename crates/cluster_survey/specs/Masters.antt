@@ -2,7 +2,7 @@
 use Rattle.std.specs.Prelude.{◌≡◌, ℕ, ◌+◌, ◌<◌, ◌≤◌, true, List, [], ◌∷◌, ◌++◌, None, All, Contains, IsSome, length}
 use Rattle.std.specs.Prelude.{filter, insert, map, unwrap_or, IsPermutation}
 use Rattle.std.specs.List.Sorted.{IsStrictlyIncreasing}
-use Rattle.cluster_nodes.specs.declared.node_line.NodeLine.{NodeLine}
+use Rattle.listed_nodes.specs.declared.node_line.NodeLine.{NodeLine}
 use Rattle.cluster_survey.specs.Addresses.{place_of}
 use Rattle.cluster_views.specs.Gone.{is_gone, is_present}
 use Rattle.cluster_views.specs.declared.fault.SurveyFault.{SurveyFault}

@@ -9,7 +9,7 @@ ghost use Rattle.cluster_survey.specs.Masters.{AreAddressed};
 use crate::cluster_fault::ClusterFault;
 use crate::masters::servers_in;
 use byte_texts::is;
-use cluster_nodes::NodeLine;
+use listed_nodes::NodeLine;
 use cluster_views::place_of_name;
 use key_slots::NodeId;
 use node_names::NodeName;

@@ -6,7 +6,7 @@ ghost use Rattle.server_commands.specs.Spelling.{nodes_request};
 ghost use Rattle.server_links.specs.Links.{Exchanges};
 
 use byte_streams::{ByteIn, ByteOut};
-use cluster_nodes::{NodeLines, nodes_in};
+use listed_nodes::{NodeLines, nodes_in};
 use cluster_views::{SurveyFault, Surveyed, survey_of};
 use key_slots::NodeId;
 use resp2_wire::Reply;

@@ -13,7 +13,7 @@ use crate::linking::links_to;
 use crate::listing::first_view;
 use crate::masters::left_out_in;
 use crate::reach::Reach;
-use cluster_nodes::NodeLine;
+use listed_nodes::NodeLine;
 use cluster_views::Surveyed;
 use key_slots::NodeId;
 use node_names::NodeName;

@@ -6,7 +6,7 @@ use crate::asking::view_of;
 use crate::cluster_fault::ClusterFault;
 use crate::opening::link_to;
 use crate::reach::Reach;
-use cluster_nodes::NodeLines;
+use listed_nodes::NodeLines;
 use cluster_views::SurveyFault;
 use key_slots::NodeId;
 use server_commands::Credentials;

@@ -6,7 +6,7 @@ use Rattle.std.specs.List.{position_from, range_with_len}
 use Rattle.std.proofs.lemmas.Iterator.Adapters.{position_from-zero}
 use Rattle.std.proofs.lemmas.List.FromFn.{fill_by_all}
 use Rattle.std.specs.Option.{IsSomeAnd, option_map}
-use Rattle.cluster_nodes.specs.declared.node_line.NodeLine.{NodeLine}
+use Rattle.listed_nodes.specs.declared.node_line.NodeLine.{NodeLine}
 use Rattle.server_commands.specs.declared.book.Server.{Server}
 use Rattle.cluster_views.specs.Numbers.{first_given, numbers_to}
 use Rattle.cluster_views.specs.Views.{Says, lists, number_of, owner_said, said_by, uncovered_fault}

@@ -11,8 +11,8 @@ use Rattle.slot_marks.specs.Rows.{AreOfSlots}
 use Rattle.slot_marks.specs.Tables.{Marks}
 use Rattle.std.specs.Prelude.{IfSome}
 use Rattle.std.proofs.lemmas.List.Quantifiers.{position-Some}
-use Rattle.cluster_nodes.specs.declared.slot_word.SlotWord.{SlotWord}
-use Rattle.cluster_nodes.specs.declared.slot_word.SlotWord.TheVariants.{Slots, Migrating, Importing}
+use Rattle.listed_nodes.specs.declared.slot_word.SlotWord.{SlotWord}
+use Rattle.listed_nodes.specs.declared.slot_word.SlotWord.TheVariants.{Slots, Migrating, Importing}
 use Rattle.server_commands.specs.Servers.{nobody}
 use Rattle.server_commands.specs.declared.book.Server.{Server}
 use Rattle.byte_texts.specs.Words.{is}

@@ -23,7 +23,7 @@ use Rattle.std.proofs.lemmas.List.FromFn.{get_or-map-range_with_len, length-map-
 use Rattle.std.proofs.lemmas.List.Quantifiers.{position-Some}
 use Rattle.std.proofs.lemmas.List.Sums.{fails_before_first, prefix_len-le-length}
 use Rattle.byte_texts.specs.Words.{is}
-use Rattle.cluster_nodes.specs.declared.node_line.NodeLine.{NodeLine}
+use Rattle.listed_nodes.specs.declared.node_line.NodeLine.{NodeLine}
 use Rattle.server_commands.specs.Servers.{nobody, server_at}
 use Rattle.server_commands.specs.declared.book.Server.{Server}
 use Rattle.cluster_views.specs.Naming.{AreToldIn, Numbers, epoch_told, number_at, told_by, told_if}

@@ -3,7 +3,7 @@ use Rattle.std.specs.Prelude.{◌≡◌, ◌⊎◌, ℕ, ◌<◌, Bool, cond, no
 use Rattle.std.specs.Prelude.{find, is_some, map, nat_lt, option_map, slice_index_or}
 use Rattle.std.specs.List.{list_any}
 use Rattle.std.specs.Option.{option_or}
-use Rattle.cluster_nodes.specs.declared.node_line.NodeLine.{NodeLine}
+use Rattle.listed_nodes.specs.declared.node_line.NodeLine.{NodeLine}
 use Rattle.cluster_admin.specs.Surveys.{Survey, importing_at, migrating_at, owner_at, row_at}
 use Rattle.cluster_views.specs.Numbers.{first_given, numbers_to}
 use Rattle.cluster_views.specs.Views.{IsRowOf, line_about, view_fault}

@@ -9,9 +9,9 @@ use Rattle.std.specs.Option.{option_or}
 use Rattle.byte_texts.specs.Outcomes.{first_refusal}
 use Rattle.byte_texts.specs.Words.{is}
 use Rattle.slot_marks.specs.Rows.{AreOfSlots}
-use Rattle.cluster_nodes.specs.declared.node_line.NodeLine.{NodeLine}
-use Rattle.cluster_nodes.specs.declared.slot_word.SlotWord.{SlotWord}
-use Rattle.cluster_nodes.specs.declared.slot_word.SlotWord.TheVariants.{Slots, Migrating, Importing}
+use Rattle.listed_nodes.specs.declared.node_line.NodeLine.{NodeLine}
+use Rattle.listed_nodes.specs.declared.slot_word.SlotWord.{SlotWord}
+use Rattle.listed_nodes.specs.declared.slot_word.SlotWord.TheVariants.{Slots, Migrating, Importing}
 use Rattle.cluster_admin.specs.Surveys.{Row}
 use Rattle.cluster_views.specs.Gone.{is_gone}
 use Rattle.cluster_views.specs.Numbers.{first_given, numbers_to}

@@ -12,7 +12,7 @@ use crate::named_book::NamedBook;
 use crate::server_survey::ServerSurvey;
 use crate::told_epochs::{epoch_told, epochs_in};
 use byte_texts::Memory;
-use cluster_nodes::{NodeLine, NodeLines};
+use listed_nodes::{NodeLine, NodeLines};
 use key_slots::{NodeId, SLOTS, Slot};
 use std::alloc::Global;
 

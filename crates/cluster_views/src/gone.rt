@@ -2,7 +2,7 @@
 ghost use Rattle.std.specs.Prelude.{◌≡◌, ◌&&◌, ◌==◌, length};
 ghost use Rattle.cluster_views.specs.Gone.{is_gone, is_present};
 
-use cluster_nodes::NodeLine;
+use listed_nodes::NodeLine;
 
 /// Whether the line is that of a master which failed, by the view of most, and has no slot.
 pub fn is_gone(line: &NodeLine) -> bool

@@ -2,7 +2,7 @@
 ghost use Rattle.std.specs.Prelude.{◌≡◌, ◌<◌, ◌&&◌, IfOk, IfSome, List, None, Some, if◌then◌else◌, is_none, length};
 ghost use Rattle.std.specs.Option.{option_copied};
 ghost use Rattle.byte_texts.specs.Words.{is};
-ghost use Rattle.cluster_nodes.specs.declared.node_line.NodeLine.{NodeLine as Line};
+ghost use Rattle.listed_nodes.specs.declared.node_line.NodeLine.{NodeLine as Line};
 ghost use Rattle.cluster_views.specs.Naming.{AreToldIn};
 ghost use Rattle.cluster_views.specs.Numbers.{first_given, numbers_to};
 ghost use Rattle.cluster_views.specs.Views.{has_address, known_fault, line_about, master_fault, number_of, own_fault};
@@ -14,7 +14,7 @@ use crate::gone::is_gone;
 use crate::named_book::NamedBook;
 use crate::told_epochs::{epoch_told, epochs_in};
 use byte_texts::{Memory, is};
-use cluster_nodes::NodeLine;
+use listed_nodes::NodeLine;
 use key_slots::NodeId;
 use server_commands::Server;
 use std::alloc::Global;

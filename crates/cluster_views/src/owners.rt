@@ -10,7 +10,7 @@ ghost use Rattle.cluster_views.specs.Views.{size_of};
 use crate::fault::SurveyFault;
 use crate::named_book::NamedBook;
 use byte_texts::Memory;
-use cluster_nodes::{NodeLine, SlotWord};
+use listed_nodes::{NodeLine, SlotWord};
 use key_slots::{NodeId, OwnerTable, SLOTS, Slot};
 use std::alloc::Global;
 

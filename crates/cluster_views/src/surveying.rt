@@ -8,7 +8,7 @@ use crate::named_book::NamedBook;
 use crate::server_survey::ServerSurvey;
 use crate::view::row_of_view;
 use byte_texts::Memory;
-use cluster_nodes::NodeLines;
+use listed_nodes::NodeLines;
 use key_slots::NodeId;
 use server_commands::ServerBook;
 use std::alloc::Global;

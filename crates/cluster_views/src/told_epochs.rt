@@ -1,14 +1,14 @@
 //! The config epochs that a server tells of all masters.
 ghost use Rattle.std.specs.Prelude.{◌≡◌, ◌<◌, ◌==◌, ℕ, List, None, Some, IfOk, if◌then◌else◌, length, slice_index_or};
 ghost use Rattle.std.specs.Option.{option_or};
-ghost use Rattle.cluster_nodes.specs.declared.node_line.NodeLine.{NodeLine as Line};
+ghost use Rattle.listed_nodes.specs.declared.node_line.NodeLine.{NodeLine as Line};
 ghost use Rattle.cluster_views.specs.Naming.{AreToldIn, epoch_told, told_by};
 ghost use Rattle.cluster_views.specs.Numbers.{first_given};
 ghost use Rattle.server_commands.specs.Servers.{server_at};
 
 use crate::named_book::NamedBook;
 use byte_texts::Memory;
-use cluster_nodes::NodeLine;
+use listed_nodes::NodeLine;
 use key_slots::NodeId;
 use std::alloc::Global;
 

@@ -12,7 +12,7 @@ use crate::named_book::NamedBook;
 use crate::owners::{first_without, overlap_fault, owners_said, table_of};
 use crate::server_row::ServerRow;
 use byte_texts::Memory;
-use cluster_nodes::NodeLine;
+use listed_nodes::NodeLine;
 use key_slots::NodeId;
 use std::alloc::Global;
 

@@ -2,7 +2,7 @@
 use Rattle.std.specs.Prelude.{Bool, true, List, ℕ, Option, None, Some}
 use Rattle.std.specs.List.{list_all}
 use Rattle.byte_texts.specs.Parts.{parts}
-use Rattle.cluster_nodes.specs.Names.{is_name}
+use Rattle.listed_nodes.specs.Names.{is_name}
 
 -- each of the parts between commas is 40 hexadecimal digits
 abbrev pub are_ids : List ℕ → Bool

@@ -3,7 +3,7 @@ ghost use Rattle.std.specs.Prelude.{◌≡◌, option_map, string_bytes};
 ghost use Rattle.command_words.specs.Ids.{are_ids, are_ids_if_given};
 
 use byte_texts::Parts;
-use cluster_nodes::is_name;
+use listed_nodes::is_name;
 
 /// Whether the text is the IDs of nodes, or none is given.
 pub(crate) fn are_ids_if_given(text: &Option<String>) -> bool

@@ -2,7 +2,7 @@
 use Rattle.std.proofs.Common.{◌≡◌, ◌⊎◌, ℕ, zero, suc, List, [], ◌∷◌, inl, inr, length}
 use Rattle.std.specs.Prelude.{Option, None, Some}
 use Rattle.cluster_admin.specs.Surveys.{Survey}
-use Rattle.cluster_nodes.specs.declared.node_line.NodeLine.{NodeLine}
+use Rattle.listed_nodes.specs.declared.node_line.NodeLine.{NodeLine}
 use Rattle.server_commands.specs.declared.book.Server.{Server}
 use Rattle.server_commands.specs.declared.credentials.Credentials.{Credentials}
 use Rattle.node_forgetting.specs.Forgetting.{SaysFollowed, SaysForgotten, SaysFree, SaysHeld, SaysListed, SaysOthers}

@@ -2,7 +2,7 @@
 use Rattle.std.specs.Prelude.{◌≡◌, ◌⊎◌, ◌==◌, ⊤, ℕ, cond, List, [], ◌∷◌, ◌++◌, Option, None, Some, length}
 use Rattle.cluster_admin.specs.Surveys.{Survey}
 use Rattle.cluster_inspection.specs.Starts.{IsExpectedBy, SaysNoStart}
-use Rattle.cluster_nodes.specs.declared.node_line.NodeLine.{NodeLine}
+use Rattle.listed_nodes.specs.declared.node_line.NodeLine.{NodeLine}
 use Rattle.cluster_survey.specs.Found.{IsFoundBeside}
 use Rattle.command_words.specs.declared.usage.ForgetWords.{ForgetWords}
 use Rattle.server_commands.specs.Servers.{server_at}

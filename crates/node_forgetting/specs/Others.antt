@@ -1,7 +1,7 @@
 -- The nodes that are to forget another one: all others that it lists, masters and replicas.
 use Rattle.std.specs.Prelude.{ℕ, Bool, not, List, filter, map}
 use Rattle.byte_texts.specs.Words.{is}
-use Rattle.cluster_nodes.specs.declared.node_line.NodeLine.{NodeLine}
+use Rattle.listed_nodes.specs.declared.node_line.NodeLine.{NodeLine}
 use Rattle.cluster_survey.specs.Masters.{server_of}
 use Rattle.server_commands.specs.declared.book.Server.{Server}
 

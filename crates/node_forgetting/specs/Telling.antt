@@ -1,7 +1,7 @@
 -- How the other nodes are told to forget a node.
 use Rattle.std.specs.Prelude.{◌≡◌, ◌⊎◌, ℕ, zero, suc, ◌+◌, List, [], ◌++◌, Option, None, Some, Ok, codes, slice_get}
 use Rattle.std.specs.declared.net.socket_addr.SocketAddrV4.{SocketAddrV4}
-use Rattle.cluster_nodes.specs.declared.node_line.NodeLine.{NodeLine}
+use Rattle.listed_nodes.specs.declared.node_line.NodeLine.{NodeLine}
 use Rattle.cluster_survey.specs.Addresses.{ipv4_in}
 use Rattle.cluster_survey.specs.Asking.{IsViewed}
 use Rattle.cluster_survey.specs.ClusterFaults as cluster

@@ -1,6 +1,6 @@
 -- What is said of a node that is to be forgotten.
 use Rattle.std.specs.Prelude.{◌==◌, ℕ, cond, List, [], ◌++◌, Option, None, Some, codes, decimal}
-use Rattle.cluster_nodes.specs.declared.node_line.NodeLine.{NodeLine}
+use Rattle.listed_nodes.specs.declared.node_line.NodeLine.{NodeLine}
 use Rattle.server_commands.specs.declared.book.Server.{Server}
 use Rattle.survey_texts.specs.Texts.{node_text}
 use Rattle.node_forgetting.specs.declared.hold.Hold.{Hold}

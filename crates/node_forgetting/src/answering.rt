@@ -4,7 +4,7 @@ ghost use Rattle.node_forgetting.specs.Texts.{address_text, follower_text, forgo
 ghost use Rattle.node_forgetting.specs.Texts.{by_hand_text, part_text, untold_line};
 
 use byte_texts::{Memory, Text};
-use cluster_nodes::NodeLine;
+use listed_nodes::NodeLine;
 use key_slots::NodeId;
 use server_commands::Server;
 use survey_texts::{put, put_node, put_number};

@@ -18,8 +18,8 @@ use crate::holding::hold;
 use crate::leaving::Leaving;
 use crate::other_nodes::others;
 use crate::told_nodes::tell_all;
-use cluster_inspection::{ASKING, NoCluster, Site, Sockets, find_cluster};
-use cluster_nodes::NodeLine;
+use cluster_inspection::{ASKING, NoCluster, System, Sockets, find_cluster};
+use listed_nodes::NodeLine;
 use cluster_survey::{FoundCluster, Reach, view_of};
 use cluster_views::{ServerSurvey, SurveyFault};
 use command_words::ForgetWords;
@@ -42,13 +42,13 @@ const MAX_OTHERS: usize = 65_535;
 /// and it has no replica.
 pub fn forget_answer<
     H: Net<Listener = TcpListener, Stream = TcpStream> + Clock + Files<File = File> + AllocGlobal,
->(site: &Site<'_, H>, words: &ForgetWords) -> Result<Option<Transcript>, AllocError>
+>(system: &System<'_, H>, words: &ForgetWords) -> Result<Option<Transcript>, AllocError>
     requires { IsAddressed words.now.cluster }
     ensures status { IfOk result (λ o. IfSome o (λ t. t.status ≤ 1)) }
     ensures says { IfOk result (λ o. MatchOption o (NamesNoNode words.now)
         (λ t. IsForgetAnswer words.now t.status t.printed.items)) }
 {
-    let servers = match find_cluster(site, &words.cluster, &[], ASKING) {
+    let servers = match find_cluster(system, &words.cluster, &[], ASKING) {
         Ok(servers) => servers,
         Err(NoCluster::Memory) => return Err(AllocError),
         Err(NoCluster::Answer(answer)) => return Ok(Some(answer)),
@@ -56,11 +56,11 @@ pub fn forget_answer<
     let Some(node) = node_in(words.node.as_bytes(), servers.book.nodes()) else {
         return Ok(None);
     };
-    let mut sockets = Sockets::new(site, ASKING);
-    let mut countdown = ClockCountdown::new(site.rt);
-    let credentials = site.credentials;
+    let mut sockets = Sockets::new(system, ASKING);
+    let mut countdown = ClockCountdown::new(system.rt);
+    let credentials = system.credentials;
     let answer = answer_at(
-        site.alloc,
+        system.alloc,
         &mut sockets,
         &mut countdown,
         credentials,

@@ -2,7 +2,7 @@
 ghost use Rattle.std.specs.Prelude.{◌≡◌, [], None};
 ghost use Rattle.node_forgetting.specs.Holding.{hold};
 
-use cluster_nodes::NodeLine;
+use listed_nodes::NodeLine;
 use cluster_views::ServerSurvey;
 use key_slots::NodeId;
 use server_commands::Server;

@@ -4,7 +4,7 @@ ghost use Rattle.cluster_survey.specs.Masters.{server_of};
 ghost use Rattle.node_forgetting.specs.Others.{is_other, others};
 
 use byte_texts::{Memory, Text, is};
-use cluster_nodes::NodeLine;
+use listed_nodes::NodeLine;
 use server_commands::Server;
 use std::alloc::Global;
 

@@ -11,15 +11,21 @@ use crate::plan_command::PlanCommand;
 use key_slots::{NodeId, Slot};
 use std::marker::Model;
 
-/// Where in the move of a slot a plan stands: before this command.
+/// Which command of a slot's move comes next. Each stands where it does for a reason ("Redis Cluster live resharding
+/// explained", on the page of CLUSTER SETSLOT).
 #[derive(Clone, Copy)]
 pub(crate) enum MoveStep {
+    /// IMPORTING at the target, before MIGRATING: a target that does not import refuses whom the source sends with ASK.
     Importing,
+    /// MIGRATING at the source, before the drain: a key that was moved is asked for at the target.
     Migrating,
+    /// The drain, before any NODE: a source that gives the slot up loses the keys that it still holds.
     Drain,
+    /// NODE at the target, before the source: else no node would serve the slot in between.
     TargetNode,
+    /// NODE at the source, which ends its mark, before the others: until then its answers lead to the target.
     SourceNode,
-    /// The first node, from this number on, that is neither the source nor the target.
+    /// NODE at the first node, from this number on, that is neither the source nor the target.
     OtherNode(u8),
 }
 

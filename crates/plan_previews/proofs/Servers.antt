@@ -5,7 +5,7 @@ use Rattle.plan_outlines.specs.declared.nodes.NodeServer.{NodeServer}
 use Rattle.plan_previews.specs.Counted.{AreServers, IsServer}
 use Rattle.server_commands.specs.Servers.{server_at}
 use Rattle.server_commands.specs.declared.book.Server.{Server}
-use Rattle.server_figures.specs.Asking.{AreToldBy, IsToldBy}
+use Rattle.server_infos.specs.Asking.{AreToldBy, IsToldBy}
 
 is_server : {L : Type 0} (exchanges : L → Answer → L → Type 0) (n : ℕ) (s : Server) (t : NodeServer) → IsToldBy exchanges n s t
     → IsServer n s t

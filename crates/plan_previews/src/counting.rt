@@ -9,9 +9,9 @@ use cluster_views::{ServerSurvey, SurveyFault};
 use plan_changes::PlanLoad;
 use plan_outlines::NodeServer;
 use plan_runner::Plan;
-use server_clusters::key_counts;
+use slot_key_counts::key_counts;
 use server_commands::ServerBook;
-use server_figures::servers_of;
+use server_infos::servers_of;
 use server_links::Link;
 use std::alloc::Global;
 

@@ -6,7 +6,7 @@ ghost use Rattle.plan_previews.specs.Drawing.{Draws, Puts};
 use crate::looking::plain_preview;
 use crate::telling::tell;
 use byte_streams::{ByteIn, ByteOut};
-use cluster_inspection::{Site, out_of_memory, show};
+use cluster_inspection::{System, out_of_memory, show};
 use command_words::Start;
 use plan_drawings::drawing;
 use plan_outlines::PlanOutline;
@@ -23,15 +23,15 @@ pub fn draw_plan<
     R: ByteIn,
     W: ByteOut,
     E: ByteOut,
->(site: &Site<'_, H>, start: &Start, reader: &mut R, writer: &mut W, errors: &mut E) -> u8
+>(system: &System<'_, H>, start: &Start, reader: &mut R, writer: &mut W, errors: &mut E) -> u8
     requires { IsStart start.now }
     ensures { Draws start.now
         (record { gave = R.gave; ends = R.ends; failures = R.failures; before = reader.old; after = reader.new })
         (record { took = W.took; failures = W.failures; before = writer.old; after = writer.new })
         (record { took = E.took; failures = E.failures; before = errors.old; after = errors.new }) result }
 {
-    match plain_preview(site, start, reader) {
-        Ok(preview) => put_drawing(site.alloc, &preview.outline, writer, errors),
+    match plain_preview(system, start, reader) {
+        Ok(preview) => put_drawing(system.alloc, &preview.outline, writer, errors),
         Err(refusal) => tell(refusal, errors),
     }
 }

@@ -8,7 +8,7 @@ use crate::looking::preview_from;
 use crate::preview::Preview;
 use crate::refusing::refused;
 use byte_streams::{ByteIn, ByteOut, Unread};
-use cluster_inspection::{Site, out_of_memory, report};
+use cluster_inspection::{System, out_of_memory, report};
 use command_words::ExplainWords;
 use plan_json::json;
 use plan_pages::page;
@@ -25,13 +25,13 @@ pub fn explain_plan<
     H: Net<Listener = TcpListener, Stream = TcpStream> + Clock + Files<File = File> + AllocGlobal,
     R: ByteIn,
     W: ByteOut,
->(site: &Site<'_, H>, words: &ExplainWords, reader: &mut R, writer: &mut W) -> u8
+>(system: &System<'_, H>, words: &ExplainWords, reader: &mut R, writer: &mut W) -> u8
     requires { IsStart words.now.start }
     ensures { Explains words.now
         (record { gave = R.gave; ends = R.ends; failures = R.failures; before = reader.old; after = reader.new })
         (record { took = W.took; failures = W.failures; before = writer.old; after = writer.new }) result }
 {
-    match explanation(site, words, reader) {
+    match explanation(system, words, reader) {
         Ok(answer) => report(&answer, writer),
         Err(Unread::Memory) => out_of_memory(writer),
         Err(Unread::Failed) => 1,
@@ -42,15 +42,15 @@ pub fn explain_plan<
 fn explanation<
     H: Net<Listener = TcpListener, Stream = TcpStream> + Clock + Files<File = File> + AllocGlobal,
     R: ByteIn,
->(site: &Site<'_, H>, words: &ExplainWords, reader: &mut R) -> Result<Transcript, Unread>
+>(system: &System<'_, H>, words: &ExplainWords, reader: &mut R) -> Result<Transcript, Unread>
     requires { IsStart words.now.start }
     ensures { IfOk result (λ t. SaysExplained words.now
         (record { gave = R.gave; ends = R.ends; failures = R.failures; before = reader.old; after = reader.new })
         t.status t.printed.items) }
 {
-    match preview_from(site, &words.start, reader) {
-        Ok(preview) => Ok(explained(site.alloc, &preview, words.json)?),
-        Err(refusal) => refused(site.alloc, refusal, words.json),
+    match preview_from(system, &words.start, reader) {
+        Ok(preview) => Ok(explained(system.alloc, &preview, words.json)?),
+        Err(refusal) => refused(system.alloc, refusal, words.json),
     }
 }
 

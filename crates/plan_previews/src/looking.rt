@@ -12,7 +12,7 @@ use crate::preview::Preview;
 use crate::verdicts::verdict_of;
 use byte_streams::{ByteIn, ByteOut};
 use cluster_inspection::{
-    ASKING, Refusal, Site, find_cluster, names_listed, open_slots, owners_at_start, plan_from,
+    ASKING, Refusal, System, find_cluster, names_listed, open_slots, owners_at_start, plan_from,
     plan_in,
 };
 use cluster_survey::FoundCluster;
@@ -29,7 +29,7 @@ use std::time::Clock;
 pub fn preview_from<
     H: Net<Listener = TcpListener, Stream = TcpStream> + Clock + Files<File = File> + AllocGlobal,
     R: ByteIn,
->(site: &Site<'_, H>, start: &Start, reader: &mut R) -> Result<Preview, Refusal>
+>(system: &System<'_, H>, start: &Start, reader: &mut R) -> Result<Preview, Refusal>
     requires { IsStart start.now }
     ensures shown { IfOk result (IsShownIn start.now
         (record { gave = R.gave; ends = R.ends; failures = R.failures; before = reader.old; after = reader.new })) }
@@ -37,8 +37,8 @@ pub fn preview_from<
         (record { gave = R.gave; ends = R.ends; failures = R.failures; before = reader.old; after = reader.new })) }
 {
     match start {
-        Start::Even(_) => plain_preview(site, start, reader),
-        Start::Cluster(words) => counted_preview(site, words, reader),
+        Start::Even(_) => plain_preview(system, start, reader),
+        Start::Cluster(words) => counted_preview(system, words, reader),
     }
 }
 
@@ -47,15 +47,15 @@ pub fn preview_from<
 pub fn plain_preview<
     H: Net<Listener = TcpListener, Stream = TcpStream> + Clock + Files<File = File> + AllocGlobal,
     R: ByteIn,
->(site: &Site<'_, H>, start: &Start, reader: &mut R) -> Result<Preview, Refusal>
+>(system: &System<'_, H>, start: &Start, reader: &mut R) -> Result<Preview, Refusal>
     requires { IsStart start.now }
     ensures shown { IfOk result (IsPlainIn start.now
         (record { gave = R.gave; ends = R.ends; failures = R.failures; before = reader.old; after = reader.new })) }
     ensures unshown { IfErr result (IsUnshown start.now
         (record { gave = R.gave; ends = R.ends; failures = R.failures; before = reader.old; after = reader.new })) }
 {
-    let plan = plan_from(site.alloc, start, reader)?;
-    let (owners, _book) = owners_at_start(site, start, names_listed(&plan))?;
+    let plan = plan_from(system.alloc, start, reader)?;
+    let (owners, _book) = owners_at_start(system, start, names_listed(&plan))?;
     let verdict = verdict_of(&plan, &owners)?;
     let outline = outline(&plan, &owners, None)?;
     Ok(Preview {
@@ -63,7 +63,7 @@ pub fn plain_preview<
         commands: plan.expanded_len(owners.nodes()),
         version: plan.version(),
         outline,
-        servers: Vec::new(site.alloc),
+        servers: Vec::new(system.alloc),
     })
 }
 
@@ -72,19 +72,19 @@ pub fn plain_preview<
 fn counted_preview<
     H: Net<Listener = TcpListener, Stream = TcpStream> + Clock + Files<File = File> + AllocGlobal,
     R: ByteIn,
->(site: &Site<'_, H>, words: &ClusterWords, reader: &mut R) -> Result<Preview, Refusal>
+>(system: &System<'_, H>, words: &ClusterWords, reader: &mut R) -> Result<Preview, Refusal>
     requires { IsAddressed words.now }
     ensures shown { IfOk result (IsCountedIn
         (record { gave = R.gave; ends = R.ends; failures = R.failures; before = reader.old; after = reader.new })) }
     ensures unshown { IfErr result (IsUnshown (Cluster words.now)
         (record { gave = R.gave; ends = R.ends; failures = R.failures; before = reader.old; after = reader.new })) }
 {
-    let plan = plan_in(site.alloc, reader)?;
-    let servers = find_cluster(site, words, names_listed(&plan), ASKING)?;
+    let plan = plan_in(system.alloc, reader)?;
+    let servers = find_cluster(system, words, names_listed(&plan), ASKING)?;
     if !servers.surveyed.survey.is_clean() {
-        return Err(Refusal::from(open_slots(site.alloc)?));
+        return Err(Refusal::from(open_slots(system.alloc)?));
     }
-    preview_at(site.alloc, servers, plan)
+    preview_at(system.alloc, servers, plan)
 }
 
 /// What the plan comes to at these servers. Each slot that it moves is asked for its keys once, and each server for its

@@ -7,7 +7,7 @@ ghost use Rattle.plan_previews.specs.Now.{DrawsNow, IsSeen, PutsSeen};
 use crate::standing::{Seen, seen_in};
 use crate::telling::tell;
 use byte_streams::{ByteOut, write_whole};
-use cluster_inspection::{ASKING, NoCluster, Refusal, Site, find_cluster, show};
+use cluster_inspection::{ASKING, NoCluster, Refusal, System, find_cluster, show};
 use command_words::ClusterWords;
 use std::fs::{File, Files};
 use std::net::{Net, TcpListener, TcpStream};
@@ -20,13 +20,13 @@ pub fn draw_now<
     H: Net<Listener = TcpListener, Stream = TcpStream> + Clock + Files<File = File> + AllocGlobal,
     W: ByteOut,
     E: ByteOut,
->(site: &Site<'_, H>, words: &ClusterWords, writer: &mut W, errors: &mut E) -> u8
+>(system: &System<'_, H>, words: &ClusterWords, writer: &mut W, errors: &mut E) -> u8
     requires { IsAddressed words.now }
     ensures { DrawsNow
         (record { took = W.took; failures = W.failures; before = writer.old; after = writer.new })
         (record { took = E.took; failures = E.failures; before = errors.old; after = errors.new }) result }
 {
-    match look(site, words) {
+    match look(system, words) {
         Ok(seen) => put_seen(&seen, writer, errors),
         Err(none) => tell(Refusal::from(none), errors),
     }
@@ -35,13 +35,13 @@ pub fn draw_now<
 /// What is there to be drawn.
 fn look<
     H: Net<Listener = TcpListener, Stream = TcpStream> + Clock + Files<File = File> + AllocGlobal,
->(site: &Site<'_, H>, words: &ClusterWords) -> Result<Seen, NoCluster>
+>(system: &System<'_, H>, words: &ClusterWords) -> Result<Seen, NoCluster>
     requires { IsAddressed words.now }
     ensures seen { IfOk result IsSeen }
     ensures unfound { IfErr result IsUnfound }
 {
-    let servers = find_cluster(site, words, &[], ASKING)?;
-    let seen = seen_in(site.alloc, &servers.surveyed.survey)?;
+    let servers = find_cluster(system, words, &[], ASKING)?;
+    let seen = seen_in(system.alloc, &servers.surveyed.survey)?;
     Ok(seen)
 }
 

@@ -21,14 +21,17 @@ pub(crate) enum SlotState<S> {
     Untouched {
         owner: NodeId,
     },
+    /// The target imports the slot from the source, which owns it and has no mark.
     Importing {
         source: NodeId,
         target: NodeId,
     },
+    /// The target imports the slot, and the source migrates it: keys may lie at both.
     Migrating {
         source: NodeId,
         target: NodeId,
     },
+    /// After the drain: keys lie at the target alone, and all nodes still name the source.
     Drained {
         source: NodeId,
         target: NodeId,

@@ -16,11 +16,11 @@ use Rattle.server_links.specs.declared.link.Link as link
 use Rattle.redis_servers.proofs.Writing.{set_beside, set_here, some_same}
 use Rattle.redis_servers.specs.Asking.{AsksNode, HearsFrom, IsSilent, SendsTo}
 use Rattle.redis_servers.specs.Calls.{Commands, Given, limit_of}
-use Rattle.redis_servers.specs.Courses.{Course}
+use Rattle.redis_servers.specs.RunHistories.{RunHistory}
 use Rattle.redis_servers.specs.InOneGo.{Finishes, TellsEach}
 use Rattle.redis_servers.specs.Saying.{SaysWhy}
 use Rattle.redis_servers.specs.declared.commanding.Outcome.{Outcome}
-use Rattle.redis_servers.specs.declared.halt.Halt.{Halt}
+use Rattle.redis_servers.specs.declared.port_stop.PortStop.{PortStop}
 use Rattle.redis_servers.specs.declared.setup.PortSetup.{PortSetup}
 
 -- ---- numbers that are not in a list
@@ -64,7 +64,7 @@ module _ {I O : Type 0} (by : Streams I O) where
       → IsSilent n links said → IsSilent n (set links m x) said
   silent_beside links n m x said ne is = (is.0, set_beside links m n x is.0 ne is.1, is.2)
 
-  node_beside : (q : Question) (links links' : Links) (n m : ℕ) (r : Result Reply Halt) (x : link.Link I O) → n ≢ m
+  node_beside : (q : Question) (links links' : Links) (n m : ℕ) (r : Result Reply PortStop) (x : link.Link I O) → n ≢ m
       → AsksNode by q links n r links' → AsksNode by q (set links m x) n r (set links' m x)
   node_beside q links links' n m (Ok r) x ne way =
       (at_beside (Exchanges by q.request) links links' n m (Ok r) x ne way.0, way.1)
@@ -73,21 +73,21 @@ module _ {I O : Type 0} (by : Streams I O) where
     silent_beside links' n m x h.said ne way.1,
   )
 
-  node_stays : (q : Question) (links links' : Links) (n m : ℕ) (r : Result Reply Halt) (l : link.Link I O) → n ≢ m
+  node_stays : (q : Question) (links links' : Links) (n m : ℕ) (r : Result Reply PortStop) (l : link.Link I O) → n ≢ m
       → AsksNode by q links n r links' → slice_get links m ≡ Some l → slice_get links' m ≡ Some l
   node_stays q links links' n m (Ok r) l ne way is =
       at_stays (Exchanges by q.request) links links' n m (Ok r) l ne way.0 is
   node_stays q links links' n m (Err h) l ne way is =
       at_stays (Exchanges by q.request) links links' n m (Err h.fault) l ne way.0 is
 
-  node_length : (q : Question) (links links' : Links) (n : ℕ) (r : Result Reply Halt) → AsksNode by q links n r links'
+  node_length : (q : Question) (links links' : Links) (n : ℕ) (r : Result Reply PortStop) → AsksNode by q links n r links'
       → length links' ≡ length links
   node_length q links links' n (Ok r) way = at_length (Exchanges by q.request) links links' n (Ok r) way.0
   node_length q links links' n (Err h) way = at_length (Exchanges by q.request) links links' n (Err h.fault) way.0
 
   -- ---- commands
 
-  module _ (setup : PortSetup) (course : Course) (request : List ℕ) (c : AdminCommand) where
+  module _ (setup : PortSetup) (history : RunHistory) (request : List ℕ) (c : AdminCommand) where
     abbrev asked : Question
     asked = record { request = request; limit = limit_of c }
 
@@ -95,8 +95,8 @@ module _ {I O : Type 0} (by : Streams I O) where
     heard = record { request = []; limit = limit_of c }
 
     command_beside : (links links' : Links) (n m : ℕ) (given : Given) (said : Option (List ℕ)) (x : link.Link I O) → n ≢ m
-        → Commands (AsksNode by) setup course request n c links given said links'
-        → Commands (AsksNode by) setup course request n c (set links m x) given said (set links' m x)
+        → Commands (AsksNode by) setup history request n c links given said links'
+        → Commands (AsksNode by) setup history request n c (set links m x) given said (set links' m x)
     command_beside links links' n m (Ok reply) said x ne way =
         (way.0, node_beside asked links links' n m (Ok way.0) x ne way.1, way.2)
     command_beside links links' n m (Err f) said x ne (inl way) =
@@ -105,7 +105,7 @@ module _ {I O : Type 0} (by : Streams I O) where
         inr (way.0, node_beside asked links links' n m (Ok way.0) x ne way.1, way.2)
 
     command_stays : (links links' : Links) (n m : ℕ) (given : Given) (said : Option (List ℕ)) (l : link.Link I O) → n ≢ m
-        → Commands (AsksNode by) setup course request n c links given said links' → slice_get links m ≡ Some l
+        → Commands (AsksNode by) setup history request n c links given said links' → slice_get links m ≡ Some l
         → slice_get links' m ≡ Some l
     command_stays links links' n m (Ok reply) said l ne way is = node_stays asked links links' n m (Ok way.0) l ne way.1 is
     command_stays links links' n m (Err f) said l ne (inl way) is =
@@ -114,7 +114,7 @@ module _ {I O : Type 0} (by : Streams I O) where
         node_stays asked links links' n m (Ok way.0) l ne way.1 is
 
     pub command_length : (links links' : Links) (n : ℕ) (given : Given) (said : Option (List ℕ))
-        → Commands (AsksNode by) setup course request n c links given said links' → length links' ≡ length links
+        → Commands (AsksNode by) setup history request n c links given said links' → length links' ≡ length links
     command_length links links' n (Ok reply) said way = node_length asked links links' n (Ok way.0) way.1
     command_length links links' n (Err f) said (inl way) =
         node_length asked links links' n (Err (record { fault = f; said = said })) way
@@ -123,8 +123,8 @@ module _ {I O : Type 0} (by : Streams I O) where
     -- ---- several nodes
 
     each_beside : (ns : List ℕ) (links links' : Links) (m : ℕ) (os : List Outcome) (x : link.Link I O) → among m ns ≡ false
-        → TellsEach (AsksNode by) setup course request c links ns os links'
-        → TellsEach (AsksNode by) setup course request c (set links m x) ns os (set links' m x)
+        → TellsEach (AsksNode by) setup history request c links ns os links'
+        → TellsEach (AsksNode by) setup history request c (set links m x) ns os (set links' m x)
     each_beside [] links links' m os x apart each = (each.0, ap (λ (ls : Links). set ls m x) each.1)
     each_beside (n ∷ ns) links links' m os x apart each = (
       each.0,
@@ -136,7 +136,7 @@ module _ {I O : Type 0} (by : Streams I O) where
     )
 
     each_stays : (ns : List ℕ) (links links' : Links) (m : ℕ) (os : List Outcome) (l : link.Link I O) → among m ns ≡ false
-        → TellsEach (AsksNode by) setup course request c links ns os links' → slice_get links m ≡ Some l
+        → TellsEach (AsksNode by) setup history request c links ns os links' → slice_get links m ≡ Some l
         → slice_get links' m ≡ Some l
     each_stays [] links links' m os l apart each is =
         subst (λ (ls : Links). slice_get ls m ≡ Some l) (sym each.1) is
@@ -150,7 +150,7 @@ module _ {I O : Type 0} (by : Streams I O) where
     abbrev Heard : (ask : Links → Links → Type 0) → (links later later' : Links) → (n : ℕ) → Type 0
     Heard ask links later later' n = (x : link.Link I O) × (later' ≡ set later n x) × ask links (set links n x)
 
-    heard_after : (links mid later later' : Links) (n : ℕ) (u : Unit {0}) (r : Result Reply Halt)
+    heard_after : (links mid later later' : Links) (n : ℕ) (u : Unit {0}) (r : Result Reply PortStop)
         (sent : AsksAt (Sends by request) links n (Ok u) mid) → slice_get later n ≡ Some sent.1
         → HearsFrom by heard later n r later' → Heard (λ a b. AsksNode by asked a n r b) links later later' n
     heard_after links mid later later' n u (Ok r) sent there hears =
@@ -196,8 +196,8 @@ module _ {I O : Type 0} (by : Streams I O) where
 
     commanded_after : (links mid later later' : Links) (n : ℕ) (u : Unit {0}) (given : Given) (said : Option (List ℕ))
         (sent : AsksAt (Sends by request) links n (Ok u) mid) → slice_get later n ≡ Some sent.1
-        → Commands (HearsFrom by) setup course [] n c later given said later'
-        → Heard (λ a b. Commands (AsksNode by) setup course request n c a given said b) links later later' n
+        → Commands (HearsFrom by) setup history [] n c later given said later'
+        → Heard (λ a b. Commands (AsksNode by) setup history request n c a given said b) links later later' n
     commanded_after links mid later later' n u (Ok reply) said sent there way =
         let x = heard_after links mid later later' n u (Ok way.0) sent there way.1 in (x.0, x.1, (way.0, x.2, way.2))
     commanded_after links mid later later' n u (Err f) said sent there (inl way) =
@@ -207,11 +207,11 @@ module _ {I O : Type 0} (by : Streams I O) where
         let x = heard_after links mid later later' n u (Ok way.0) sent there way.1 in (x.0, x.1, inr (way.0, x.2, way.2))
 
     -- the node is sent to, the others are told, and then the node is heard
-    pub around : (links mid later later' : Links) (n : ℕ) (ns : List ℕ) (sent : Result (Unit {0}) Halt) (o : Outcome)
+    pub around : (links mid later later' : Links) (n : ℕ) (ns : List ℕ) (sent : Result (Unit {0}) PortStop) (o : Outcome)
         (os : List Outcome) → among n ns ≡ false → SendsTo by request links n sent mid
-        → TellsEach (AsksNode by) setup course request c mid ns os later
-        → Finishes (HearsFrom by) setup course n c sent later o.given o.said later'
-        → TellsEach (AsksNode by) setup course request c links (n ∷ ns) (o ∷ os) later'
+        → TellsEach (AsksNode by) setup history request c mid ns os later
+        → Finishes (HearsFrom by) setup history n c sent later o.given o.said later'
+        → TellsEach (AsksNode by) setup history request c links (n ∷ ns) (o ∷ os) later'
     around links mid later later' n ns (Ok u) o os apart sent each way =
         let here : slice_get mid n ≡ Some sent.1 =
         ap (λ (ls : Links). slice_get ls n) sent.4
@@ -225,8 +225,8 @@ module _ {I O : Type 0} (by : Streams I O) where
           set links n x.0,
           refl,
           x.2,
-          subst (λ (a : Links). TellsEach (AsksNode by) setup course request c a ns os later') replaced
-              (subst (λ (b : Links). TellsEach (AsksNode by) setup course request c (set mid n x.0) ns os b) (sym x.1)
+          subst (λ (a : Links). TellsEach (AsksNode by) setup history request c a ns os later') replaced
+              (subst (λ (b : Links). TellsEach (AsksNode by) setup history request c (set mid n x.0) ns os b) (sym x.1)
               (each_beside ns mid later n os x.0 apart each)),
         )
     around links mid later later' n ns (Err h) o os apart sent each way = (
@@ -234,7 +234,7 @@ module _ {I O : Type 0} (by : Streams I O) where
       os,
       mid,
       refl,
-      subst (λ (g : Given). Commands (AsksNode by) setup course request n c links g o.said mid) (sym way.0)
-          (subst (λ (t : Option (List ℕ)). Commands (AsksNode by) setup course request n c links (Err h.fault) t mid) (sym way.1) (inl sent)),
-      subst (λ (b : Links). TellsEach (AsksNode by) setup course request c mid ns os b) (sym way.2) each,
+      subst (λ (g : Given). Commands (AsksNode by) setup history request n c links g o.said mid) (sym way.0)
+          (subst (λ (t : Option (List ℕ)). Commands (AsksNode by) setup history request n c links (Err h.fault) t mid) (sym way.1) (inl sent)),
+      subst (λ (b : Links). TellsEach (AsksNode by) setup history request c mid ns os b) (sym way.2) each,
     )

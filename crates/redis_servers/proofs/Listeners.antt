@@ -14,7 +14,7 @@ use Rattle.cluster_admin.specs.Surveys.{Row, Survey}
 use Rattle.resp2_wire.specs.declared.reply.Reply.{Reply}
 use Rattle.server_links.specs.Streams.{Question}
 use Rattle.redis_servers.specs.Calls.{Confirms, Given, IsHeard, Spreads}
-use Rattle.redis_servers.specs.Courses.{Course}
+use Rattle.redis_servers.specs.RunHistories.{RunHistory}
 use Rattle.redis_servers.specs.Duties.{duties_after, duties_done}
 use Rattle.redis_servers.specs.Hearers.{CanHear, hearer_if, hearers_after, hearers_done, hearers_from}
 use Rattle.redis_servers.specs.InOneGo.{is_done}
@@ -22,7 +22,7 @@ use Rattle.redis_servers.specs.Meeting.{Hears, HearsAll, MeetsAll}
 use Rattle.redis_servers.specs.Unmet.{late_text}
 use Rattle.redis_servers.specs.declared.commanding.Outcome.{Outcome}
 use Rattle.redis_servers.specs.declared.duty.Duty.{Duty}
-use Rattle.redis_servers.specs.declared.halt.Halt.{Halt}
+use Rattle.redis_servers.specs.declared.port_stop.PortStop.{PortStop}
 use Rattle.redis_servers.specs.declared.hearers.Hearer.{Hearer}
 use Rattle.redis_servers.specs.declared.setup.PortSetup.{PortSetup}
 
@@ -88,7 +88,7 @@ not_both : (r : AdminReply) (f : PortFault) → ◌≡◌ {A = Given} (Ok r) (Er
 not_both r f e = cc
 
 -- a reply that stands is the command's own
-pub own_reply : (o : Outcome) (heard : Result (Option (List ℕ)) Halt) (r : AdminReply) (said : Option (List ℕ))
+pub own_reply : (o : Outcome) (heard : Result (Option (List ℕ)) PortStop) (r : AdminReply) (said : Option (List ℕ))
     → IsHeard o heard (Ok r) said → o.given ≡ Ok r
 own_reply o (Ok None) r said is = sym is.0
 own_reply o (Ok (Some text)) r said is = sym is.0
@@ -116,38 +116,38 @@ last_text ts init text hs rest h said popped is =
     same_head text (late_text h) (reverse init) (map late_text rest)
     (sym (reverse-append init (text ∷ [])) ∙ ap reverse (sym popped) ∙ said ∙ ap (map late_text) is)
 
-module _ {L : Type 0} (asks : Question → List L → (node : ℕ) → Result Reply Halt → List L → Type 0) (x : PortSetup)
-    (course : Course) where
+module _ {L : Type 0} (asks : Question → List L → (node : ℕ) → Result Reply PortStop → List L → Type 0) (x : PortSetup)
+    (history : RunHistory) where
   pub hears_more : (hs rest : List Hearer) (h : Hearer) (links mid links' : List L)
-      (r : Result (Option (List ℕ)) Halt) → hs ≡ h ∷ rest → Hears asks x course h links (Ok true) mid
-      → HearsAll asks x course rest mid r links' → HearsAll asks x course hs links r links'
+      (r : Result (Option (List ℕ)) PortStop) → hs ≡ h ∷ rest → Hears asks x history h links (Ok true) mid
+      → HearsAll asks x history rest mid r links' → HearsAll asks x history hs links r links'
   hears_more hs rest h links mid links' r is first later =
-      subst (λ (ks : List Hearer). HearsAll asks x course ks links r links') (sym is) (inl (mid, first, later))
+      subst (λ (ks : List Hearer). HearsAll asks x history ks links r links') (sym is) (inl (mid, first, later))
 
   pub hears_late : (hs rest : List Hearer) (h : Hearer) (links links' : List L) (text : List ℕ) → hs ≡ h ∷ rest
-      → text ≡ late_text h → Hears asks x course h links (Ok false) links'
-      → HearsAll asks x course hs links (Ok (Some text)) links'
+      → text ≡ late_text h → Hears asks x history h links (Ok false) links'
+      → HearsAll asks x history hs links (Ok (Some text)) links'
   hears_late hs rest h links links' text is same last =
-      subst (λ (ks : List Hearer). HearsAll asks x course ks links (Ok (Some text)) links') (sym is) (inr (last, same))
+      subst (λ (ks : List Hearer). HearsAll asks x history ks links (Ok (Some text)) links') (sym is) (inr (last, same))
 
-  pub hears_none : (hs rest : List Hearer) (h : Hearer) (links links' : List L) (halt : Halt) → hs ≡ h ∷ rest
-      → Hears asks x course h links (Err halt) links' → HearsAll asks x course hs links (Err halt) links'
-  hears_none hs rest h links links' halt is last =
-      subst (λ (ks : List Hearer). HearsAll asks x course ks links (Err halt) links') (sym is) (inr last)
+  pub hears_none : (hs rest : List Hearer) (h : Hearer) (links links' : List L) (port_stop : PortStop) → hs ≡ h ∷ rest
+      → Hears asks x history h links (Err port_stop) links' → HearsAll asks x history hs links (Err port_stop) links'
+  hears_none hs rest h links links' port_stop is last =
+      subst (λ (ks : List Hearer). HearsAll asks x history ks links (Err port_stop) links') (sym is) (inr last)
 
   -- ---- after a command
 
   module _ (n : ℕ) (c : AdminCommand) where
-    stands : (o : Outcome) (g : Given) (links : List L) → o.given ≡ g → duties_done course x.survey n c g ≡ []
+    stands : (o : Outcome) (g : Given) (links : List L) → o.given ≡ g → duties_done history x.survey n c g ≡ []
         → hearers_done x.waits_for_news x.survey n c g ≡ []
-        → Confirms asks x course n c o links o.given o.said links
+        → Confirms asks x history n c o links o.given o.said links
     stands o g links is duties hearers = inl (
       links,
-      subst (λ (ds : List Duty). MeetsAll asks x course ds links (Ok tt) links)
-          (sym (ap (λ (y : Given). duties_done course x.survey n c y) is ∙ duties)) refl,
+      subst (λ (ds : List Duty). MeetsAll asks x history ds links (Ok tt) links)
+          (sym (ap (λ (y : Given). duties_done history x.survey n c y) is ∙ duties)) refl,
       (
         Ok None,
-        subst (λ (hs : List Hearer). HearsAll asks x course hs links (Ok None) links)
+        subst (λ (hs : List Hearer). HearsAll asks x history hs links (Ok None) links)
             (sym (ap (λ (y : Given). hearers_done x.waits_for_news x.survey n c y) is ∙ hearers)) (refl, refl),
         (refl, refl),
       ),
@@ -155,7 +155,7 @@ module _ {L : Type 0} (asks : Question → List L → (node : ℕ) → Result Re
 
     -- nothing is asked after a command that was not done
     pub undone_stands : (o : Outcome) (g : Given) (links : List L) → o.given ≡ g → is_done g ≡ false
-        → Confirms asks x course n c o links o.given o.said links
+        → Confirms asks x history n c o links o.given o.said links
     undone_stands o (Ok admin.Ok) links is not = absurd cc
     undone_stands o (Ok admin.NoKey) links is not = stands o (Ok admin.NoKey) links is refl refl
     undone_stands o (Ok (admin.Keys ks)) links is not = stands o (Ok (admin.Keys ks)) links is refl refl
@@ -163,17 +163,17 @@ module _ {L : Type 0} (asks : Question → List L → (node : ℕ) → Result Re
     undone_stands o (Err f) links is not = stands o (Err f) links is refl refl
 
     -- after one that was done all is asked
-    pub done_stands : (y : PortSetup) (later : Course) (o : Outcome) (after : List Duty) (hearers : List Hearer)
+    pub done_stands : (y : PortSetup) (later : RunHistory) (o : Outcome) (after : List Duty) (hearers : List Hearer)
         (links mid links' : List L) (given : Given) (said : Option (List ℕ)) → o.given ≡ Ok admin.Ok
-        → after ≡ duties_after course x.survey n c → hearers ≡ hearers_after x.waits_for_news x.survey n c
-        → y ≡ x → later ≡ course → MeetsAll asks x course after links (Ok tt) mid
-        → Spreads asks y later hearers o mid given said links' → Confirms asks x course n c o links given said links'
+        → after ≡ duties_after history x.survey n c → hearers ≡ hearers_after x.waits_for_news x.survey n c
+        → y ≡ x → later ≡ history → MeetsAll asks x history after links (Ok tt) mid
+        → Spreads asks y later hearers o mid given said links' → Confirms asks x history n c o links given said links'
     done_stands y later o after hearers links mid links' given said is duties others setup same met spreads = inl (
       mid,
-      subst (λ (ds : List Duty). MeetsAll asks x course ds links (Ok tt) mid)
-          (duties ∙ ap (λ (g : Given). duties_done course x.survey n c g) (sym is)) met,
-      subst (λ (hs : List Hearer). Spreads asks x course hs o mid given said links')
+      subst (λ (ds : List Duty). MeetsAll asks x history ds links (Ok tt) mid)
+          (duties ∙ ap (λ (g : Given). duties_done history x.survey n c g) (sym is)) met,
+      subst (λ (hs : List Hearer). Spreads asks x history hs o mid given said links')
           (others ∙ ap (λ (g : Given). hearers_done x.waits_for_news x.survey n c g) (sym is))
-          (subst (λ (w : Course). Spreads asks x w hearers o mid given said links') same
+          (subst (λ (w : RunHistory). Spreads asks x w hearers o mid given said links') same
           (subst (λ (w : PortSetup). Spreads asks w later hearers o mid given said links') setup spreads)),
     )

@@ -8,7 +8,7 @@ use Rattle.cluster_admin.specs.declared.admin.AdminCommand.TheVariants.{Importin
 use Rattle.cluster_admin.specs.declared.admin.AdminCommand.TheVariants.{Stable}
 use Rattle.cluster_admin.specs.Surveys.{Survey}
 use Rattle.server_commands.specs.Spelling.{Names}
-use Rattle.redis_servers.specs.Courses.{Course, is_chained, source_of}
+use Rattle.redis_servers.specs.RunHistories.{RunHistory, is_chained, source_of}
 use Rattle.redis_servers.specs.Duties.{AreThere, duties_after, duties_before, epoch_if, epochs_from, has_role}
 use Rattle.redis_servers.specs.Duties.{master_if, news_at, owner_if, taken_if}
 use Rattle.redis_servers.specs.declared.duty.Duty.{Duty}
@@ -32,7 +32,7 @@ if_any : (b : Bool) (k : ℕ) (ds : List Duty) → AreThere k ds → AreThere k 
 if_any true k ds there = there
 if_any false k ds there = tt
 
-news_there : (x : Course) (k t : ℕ) → t < k → length x.receivers ≤ k → AreThere k (news_at x t)
+news_there : (x : RunHistory) (k t : ℕ) → t < k → length x.receivers ≤ k → AreThere k (news_at x t)
 news_there x k t there few =
     if_any (is_chained x t) k (epochs_from t 0 x.receivers ++ HasNews t ∷ [])
     (are_both k (epochs_from t 0 x.receivers) (HasNews t ∷ []) (epochs_there k t 0 x.receivers there (omega (arith, few))) (there, tt))
@@ -61,7 +61,7 @@ owner_there : (wanted : Bool) (k i slot t : ℕ) → i < k → t < k → AreTher
 owner_there true k i slot t here there = ((here, there), tt)
 owner_there false k i slot t here there = tt
 
-before : (waits : Bool) (x : Course) (v : Survey) (k n : ℕ) (c : AdminCommand) → k ≡ length v.rows → n < k
+before : (waits : Bool) (x : RunHistory) (v : Survey) (k n : ℕ) (c : AdminCommand) → k ≡ length v.rows → n < k
     → length x.receivers ≤ k → Names k c → AreThere k (duties_before waits x v n c)
 before waits x v k n (SetNode slot owner) rows there few named =
     if_any (owner == n) k (news_at x n ++ master_if (length v.rows) n (source_of x v slot))
@@ -73,7 +73,7 @@ before waits x v k n (Stable slot) rows there few named = tt
 before waits x v k n (KeysIn slot count) rows there few named = tt
 before waits x v k n (Migrate ks m) rows there few named = tt
 
-after : (x : Course) (v : Survey) (k n : ℕ) (c : AdminCommand) → k ≡ length v.rows → n < k
+after : (x : RunHistory) (v : Survey) (k n : ℕ) (c : AdminCommand) → k ≡ length v.rows → n < k
     → AreThere k (duties_after x v n c)
 after x v k n (SetNode slot owner) rows there =
     if_any (owner == n) k (taken_if (length v.rows) n slot (source_of x v slot))
@@ -86,11 +86,11 @@ after x v k n (KeysIn slot count) rows there = tt
 after x v k n (Migrate ks m) rows there = tt
 
 -- the same of a list that was made
-pub there_before : (waits : Bool) (x : Course) (v : Survey) (k n : ℕ) (c : AdminCommand) (ds : List Duty)
+pub there_before : (waits : Bool) (x : RunHistory) (v : Survey) (k n : ℕ) (c : AdminCommand) (ds : List Duty)
     → ds ≡ duties_before waits x v n c → k ≡ length v.rows → n < k → length x.receivers ≡ k → Names k c → AreThere k ds
 there_before waits x v k n c ds is rows there few named =
     subst (AreThere k) (sym is) (before waits x v k n c rows there (omega (arith, few)) named)
 
-pub there_after : (x : Course) (v : Survey) (k n : ℕ) (c : AdminCommand) (ds : List Duty)
+pub there_after : (x : RunHistory) (v : Survey) (k n : ℕ) (c : AdminCommand) (ds : List Duty)
     → ds ≡ duties_after x v n c → k ≡ length v.rows → n < k → AreThere k ds
 there_after x v k n c ds is rows there = subst (AreThere k) (sym is) (after x v k n c rows there)

@@ -15,7 +15,7 @@ use Rattle.server_commands.specs.declared.credentials.Credentials.{Credentials}
 use Rattle.server_links.specs.declared.link_fault.LinkFault.{LinkFault}
 use Rattle.resp2_wire.specs.Tree.{Trees}
 use Rattle.redis_servers.specs.Calls.{Given, IsExcused, IsOutcome, Reads, SaysNothing}
-use Rattle.redis_servers.specs.Courses.{Course}
+use Rattle.redis_servers.specs.RunHistories.{RunHistory}
 use Rattle.redis_servers.specs.Hearing.{unheard_text}
 use Rattle.redis_servers.specs.Looking.{HasNoRole}
 use Rattle.redis_servers.specs.declared.setup.PortSetup.{PortSetup}
@@ -70,15 +70,15 @@ strange_kept items login n reply.NullArray words said other is kept = words_kept
 strange_kept items login n (reply.Array rs) words said other is kept =
     words_kept items (strange_text n) words said is kept
 
-pub strange_outcome : (x : PortSetup) (course : Course) (n : ℕ) (c : AdminCommand) (r : Reply) (answered : Answered)
-    (given : Given) (said kept : Option (List ℕ)) → answered ≡ told.Strange → Reads (IsExcused x course n c) n c r answered
-    → given ≡ Err Wire → said ≡ kept → Keeps (useless_text x.credentials n r) kept → IsOutcome x course n c r given said
-strange_outcome x course n c r answered given said kept strange reads is same keeps =
-    let why : SaysNothing (IsExcused x course n c) n c r =
-    inr (subst (λ (a : Answered). Reads (IsExcused x course n c) n c r a) strange reads) in
+pub strange_outcome : (x : PortSetup) (history : RunHistory) (n : ℕ) (c : AdminCommand) (r : Reply) (answered : Answered)
+    (given : Given) (said kept : Option (List ℕ)) → answered ≡ told.Strange → Reads (IsExcused x history n c) n c r answered
+    → given ≡ Err Wire → said ≡ kept → Keeps (useless_text x.credentials n r) kept → IsOutcome x history n c r given said
+strange_outcome x history n c r answered given said kept strange reads is same keeps =
+    let why : SaysNothing (IsExcused x history n c) n c r =
+    inr (subst (λ (a : Answered). Reads (IsExcused x history n c) n c r a) strange reads) in
     let keeps : Keeps (useless_text x.credentials n r) said =
     subst (λ (s : Option (List ℕ)). Keeps (useless_text x.credentials n r) s) (sym same) keeps in
-    subst (λ (g : Given). IsOutcome x course n c r g said) (sym is)
+    subst (λ (g : Given). IsOutcome x history n c r g said) (sym is)
     (refl, told_or_lost (useless_text x.credentials n r) said why keeps)
 
 -- ---- a reply to ROLE that tells no role

@@ -6,7 +6,7 @@ use Rattle.std.proofs.lemmas.Bool.{cases_eq}
 use Rattle.std.proofs.lemmas.List.{get_or-set_same, get_or-set_other, length-set}
 use Rattle.std.proofs.lemmas.Option.{slice_get-get_or, slice_get_within, get_or_from_slice_get}
 use Rattle.cluster_admin.specs.declared.admin.AdminCommand.{AdminCommand}
-use Rattle.cluster_nodes.specs.declared.node_line.NodeLine.{NodeLine}
+use Rattle.listed_nodes.specs.declared.node_line.NodeLine.{NodeLine}
 use Rattle.cluster_admin.specs.declared.admin.AdminFault.{AdminFault}
 use Rattle.cluster_admin.specs.declared.admin.AdminReply.{AdminReply}
 use Rattle.cluster_admin.specs.declared.call.AdminCall.{AdminCall}
@@ -21,7 +21,7 @@ use Rattle.redis_servers.specs.Asking.{AsksNode, nodes_question}
 use Rattle.server_links.specs.Streams.{Question, Streams}
 use Rattle.server_links.specs.declared.link.Link as link
 use Rattle.redis_servers.specs.Calls.{AnswersBy, Commands, Confirms, Given, IsHeard, Sends, limit_of, unsent_fault}
-use Rattle.redis_servers.specs.Courses.{Course}
+use Rattle.redis_servers.specs.RunHistories.{RunHistory}
 use Rattle.redis_servers.specs.Duties.{duties_before, duties_done}
 use Rattle.redis_servers.specs.Hearing.{LooksUp, Turn, Turns, Waits}
 use Rattle.redis_servers.specs.Hearers.{hearers_done}
@@ -34,12 +34,12 @@ use Rattle.redis_servers.specs.Runs.{AreSpellings, GoOn, Runs, RunsWriteSpelling
 use Rattle.redis_servers.specs.declared.commanding.Outcome.{Outcome}
 use Rattle.redis_servers.specs.declared.duty.Duty.{Duty}
 use Rattle.redis_servers.specs.declared.duty.Duty.TheVariants.{KnowsEpoch, HasNews, IsMaster, OwnsSlot, IsStillMaster, ShowsOwner}
-use Rattle.redis_servers.specs.declared.halt.Halt.{Halt}
+use Rattle.redis_servers.specs.declared.port_stop.PortStop.{PortStop}
 use Rattle.redis_servers.specs.declared.hearers.Hearer.{Hearer}
 use Rattle.redis_servers.specs.declared.port.ServersPort as port
 use Rattle.redis_servers.specs.declared.setup.PortSetup.{PortSetup}
 
-no_halt : (late : Option (List ℕ)) (h : Halt) → ◌≡◌ {A = Result (Option (List ℕ)) Halt} (Err h) (Ok late) → ⊥
+no_halt : (late : Option (List ℕ)) (h : PortStop) → ◌≡◌ {A = Result (Option (List ℕ)) PortStop} (Err h) (Ok late) → ⊥
 no_halt late h e = cc
 
 -- ---- places of a list
@@ -138,7 +138,7 @@ module _ {I O : Type 0} (by : Streams I O) (none : (x : O) → by.took x [] x)
       )
 
   -- how a server is asked for its nodes
-  abbrev asks_nodes : List (link.Link I O) → ℕ → Result Reply Halt → List (link.Link I O) → Type 0
+  abbrev asks_nodes : List (link.Link I O) → ℕ → Result Reply PortStop → List (link.Link I O) → Type 0
   asks_nodes = AsksNode by nodes_question
 
   -- CLUSTER NODES and ROLE, some of them
@@ -214,15 +214,15 @@ module _ {I O : Type 0} (by : Streams I O) (none : (x : O) → by.took x [] x)
 
   -- ---- what servers have to show
 
-  module _ (x : PortSetup) (course : Course) where
+  module _ (x : PortSetup) (history : RunHistory) where
     met : (d : Duty) (links links' : List (link.Link I O)) (n : ℕ) → There links n
-        → Meets (AsksNode by) x course d links (Ok tt) links' → TakesLooks links n links'
+        → Meets (AsksNode by) x history d links (Ok tt) links' → TakesLooks links n links'
     met (KnowsEpoch s t) links links' n there meets =
         waited x.credentials (server_at x.book s).name links links' s t n tt there meets
     met (HasNews t) links links' n there meets =
-        looked_until x.credentials (Shows x course (HasNews t)) (unmet_text (HasNews t)) links links' t n there meets
+        looked_until x.credentials (Shows x history (HasNews t)) (unmet_text (HasNews t)) links links' t n there meets
     met (ShowsOwner m slot t) links links' n there meets =
-        looked_until x.credentials (Shows x course (ShowsOwner m slot t)) (unmet_text (ShowsOwner m slot t)) links links' m n there meets
+        looked_until x.credentials (Shows x history (ShowsOwner m slot t)) (unmet_text (ShowsOwner m slot t)) links links' m n there meets
     met (IsMaster s) links links' n there meets = role_read x.credentials links links' s n true there meets
     met (OwnsSlot t slot) links links' n there meets =
         lines_read x.credentials links links' t n meets.0 there meets.1
@@ -230,7 +230,7 @@ module _ {I O : Type 0} (by : Streams I O) (none : (x : O) → by.took x [] x)
         role_read x.credentials links links' s n meets.0 there meets.1
 
     all_met : (ds : List Duty) (links links' : List (link.Link I O)) (n : ℕ) → There links n
-        → MeetsAll (AsksNode by) x course ds links (Ok tt) links' → TakesLooks links n links'
+        → MeetsAll (AsksNode by) x history ds links (Ok tt) links' → TakesLooks links n links'
     all_met [] links links' n there meets =
         subst (λ (ls : List (link.Link I O)). TakesLooks links n ls) (sym meets) (no_looks links n there)
     all_met (d ∷ ds) links links' n there meets =
@@ -239,14 +239,14 @@ module _ {I O : Type 0} (by : Streams I O) (none : (x : O) → by.took x [] x)
         (all_met ds meets.0 links' n (after_takes links meets.0 n first.0 first.2) meets.2)
 
     heard : (h : Hearer) (shown : Bool) (links links' : List (link.Link I O)) (n : ℕ) → There links n
-        → Hears (AsksNode by) x course h links (Ok shown) links' → TakesLooks links n links'
+        → Hears (AsksNode by) x history h links (Ok shown) links' → TakesLooks links n links'
     heard h shown links links' n there hears =
-        looked_last x.credentials (Shows x course (ShowsOwner h.node h.slot h.owner)) links links' h.node n shown there
+        looked_last x.credentials (Shows x history (ShowsOwner h.node h.slot h.owner)) links links' h.node n shown there
         hears
 
-    all_heard : (hs : List Hearer) (result : Result (Option (List ℕ)) Halt) (links links' : List (link.Link I O))
+    all_heard : (hs : List Hearer) (result : Result (Option (List ℕ)) PortStop) (links links' : List (link.Link I O))
         (n : ℕ) → ((o : Option (List ℕ)) × (result ≡ Ok o)) → There links n
-        → HearsAll (AsksNode by) x course hs links result links' → TakesLooks links n links'
+        → HearsAll (AsksNode by) x history hs links result links' → TakesLooks links n links'
     all_heard [] result links links' n ok there hears =
         subst (λ (ls : List (link.Link I O)). TakesLooks links n ls) (sym hears.1) (no_looks links n there)
     all_heard (h ∷ hs) result links links' n ok there (inl hears) =
@@ -256,7 +256,7 @@ module _ {I O : Type 0} (by : Streams I O) (none : (x : O) → by.took x [] x)
     all_heard (h ∷ hs) (Ok None) links links' n ok there (inr ends) = absurd ends
     all_heard (h ∷ hs) (Ok (Some text)) links links' n ok there (inr ends) =
         heard h false links links' n there ends.0
-    all_heard (h ∷ hs) (Err halt) links links' n ok there (inr ends) = absurd (no_halt ok.0 halt ok.1)
+    all_heard (h ∷ hs) (Err port_stop) links links' n ok there (inr ends) = absurd (no_halt ok.0 port_stop ok.1)
 
   -- ---- one call
 
@@ -265,18 +265,18 @@ module _ {I O : Type 0} (by : Streams I O) (none : (x : O) → by.took x [] x)
   TakesCall links n sent links' =
       (before : List Bool) × (after : List Bool) × Takes by links n (looks before ++ (sent ++ looks after)) links'
 
-  commanded : (x : PortSetup) (course : Course) (request : List ℕ) (m n : ℕ) (c : AdminCommand) (links links' : List (link.Link I O))
+  commanded : (x : PortSetup) (history : RunHistory) (request : List ℕ) (m n : ℕ) (c : AdminCommand) (links links' : List (link.Link I O))
       (given : Given) (reply : AdminReply) (said : Option (List ℕ)) → There links n → given ≡ Ok reply
-      → Commands (AsksNode by) x course request m c links given said links' → Takes by links n (cond (m == n) request []) links'
-  commanded x course request m n c links links' given reply said there is way =
-      let ok = subst (λ (g : Given). Commands (AsksNode by) x course request m c links g said links') is way in
+      → Commands (AsksNode by) x history request m c links given said links' → Takes by links n (cond (m == n) request []) links'
+  commanded x history request m n c links links' given reply said there is way =
+      let ok = subst (λ (g : Given). Commands (AsksNode by) x history request m c links g said links') is way in
       asked links links' m n (record { request = request; limit = limit_of c }) ok.0 there ok.1
 
   not_both : (r : AdminReply) (f : PortFault) → ◌≡◌ {A = Result AdminReply PortFault} (Ok r) (Err f) → ⊥
   not_both r f e = cc
 
   -- a reply that stands comes of servers that were all asked
-  some_heard : (o : Outcome) (heard : Result (Option (List ℕ)) Halt) (r : AdminReply) (said : Option (List ℕ))
+  some_heard : (o : Outcome) (heard : Result (Option (List ℕ)) PortStop) (r : AdminReply) (said : Option (List ℕ))
       → IsHeard o heard (Ok r) said → (late : Option (List ℕ)) × (heard ≡ Ok late)
   some_heard o (Ok late) r said is = (late, refl)
   some_heard o (Err h) r said is = absurd (not_both r h.fault is.0)
@@ -284,26 +284,26 @@ module _ {I O : Type 0} (by : Streams I O) (none : (x : O) → by.took x [] x)
   abbrev spelt : PortSetup → AdminCommand → List ℕ
   spelt x c = request_of x.book x.timeout x.credentials c
 
-  sent : (x : PortSetup) (course : Course) (m n : ℕ) (c : AdminCommand) (links links' : List (link.Link I O)) (reply : AdminReply)
-      (said : Option (List ℕ)) → There links n → Sends (AsksNode by) x course m c links (Ok reply) said links'
+  sent : (x : PortSetup) (history : RunHistory) (m n : ℕ) (c : AdminCommand) (links links' : List (link.Link I O)) (reply : AdminReply)
+      (said : Option (List ℕ)) → There links n → Sends (AsksNode by) x history m c links (Ok reply) said links'
       → TakesCall links n (cond (m == n) (spelt x c) []) links'
-  sent x course m n c links links' reply said there (inl way) = confirmed way.5
+  sent x history m n c links links' reply said there (inl way) = confirmed way.5
     where
       before : TakesLooks links n way.0
-      before = all_met x course (duties_before x.waits_for_news course x.survey m c) links way.0 n there way.3
+      before = all_met x history (duties_before x.waits_for_news history x.survey m c) links way.0 n there way.3
 
-      confirmed : Confirms (AsksNode by) x course m c way.1 way.2 (Ok reply) said links'
+      confirmed : Confirms (AsksNode by) x history m c way.1 way.2 (Ok reply) said links'
           → TakesCall links n (cond (m == n) (spelt x c) []) links'
       confirmed (inl stands) =
           let heard = stands.2.0 in
           let own : way.1.given ≡ Ok reply = own_reply way.1 heard reply said stands.2.2 in
           let now : Takes by way.0 n (cond (m == n) (spelt x c) []) way.2 =
-          commanded x course (spelt x c) m n c way.0 way.2 way.1.given reply way.1.said
+          commanded x history (spelt x c) m n c way.0 way.2 way.1.given reply way.1.said
           (after_takes links way.0 n before.0 before.2) own way.4 in
-          let met = all_met x course (duties_done course x.survey m c way.1.given) way.2 stands.0 n
+          let met = all_met x history (duties_done history x.survey m c way.1.given) way.2 stands.0 n
           (after_takes way.0 way.2 n (cond (m == n) (spelt x c) []) now) stands.1 in
           let after = more_looks way.2 stands.0 links' n met
-          (all_heard x course (hearers_done x.waits_for_news x.survey m c way.1.given) heard stands.0 links' n
+          (all_heard x history (hearers_done x.waits_for_news x.survey m c way.1.given) heard stands.0 links' n
           (some_heard way.1 heard reply said stands.2.2) (after_takes way.2 stands.0 n met.0 met.2) stands.2.1) in (
             before.1.0,
             after.1.0,
@@ -313,15 +313,15 @@ module _ {I O : Type 0} (by : Streams I O) (none : (x : O) → by.took x [] x)
                 (joins way.0 way.2 links' n (cond (m == n) (spelt x c) []) after.0 now after.2))),
           )
       confirmed (inr stops) = absurd (not_both reply stops.0.fault stops.2)
-  sent x course m n c links links' reply said there (inr way) = absurd (not_both reply way.0.fault way.2)
+  sent x history m n c links links' reply said there (inr way) = absurd (not_both reply way.0.fault way.2)
 
-  answered : (o : Option AdminFault) (x : PortSetup) (course : Course) (m n : ℕ) (c : AdminCommand) (links links' : List (link.Link I O))
+  answered : (o : Option AdminFault) (x : PortSetup) (history : RunHistory) (m n : ℕ) (c : AdminCommand) (links links' : List (link.Link I O))
       (reply : AdminReply) (said : Option (List ℕ)) → There links n
-      → AnswersBy (AsksNode by) o x course m c links (Ok reply) said links'
+      → AnswersBy (AsksNode by) o x history m c links (Ok reply) said links'
       → TakesCall links n (sent_unless o (m == n) (request_of x.book x.timeout x.credentials c)) links'
-  answered (Some f) x course m n c links links' reply said there way =
+  answered (Some f) x history m n c links links' reply said there way =
       ([], [], subst (λ (ls : List (link.Link I O)). Takes by links n [] ls) (sym way.2) (stays links n there))
-  answered None x course m n c links links' reply said there way = sent x course m n c links links' reply said there way
+  answered None x history m n c links links' reply said there way = sent x history m n c links links' reply said there way
 
   -- ---- a run
 
@@ -329,7 +329,7 @@ module _ {I O : Type 0} (by : Streams I O) (none : (x : O) → by.took x [] x)
     moved : (p q : port.ServersPort I O P) (c : AdminCall) (n : ℕ) → There p.links.items n → Moves by p c q
         → TakesCall p.links.items n (sent_to p.setup n c) q.links.items
     moved p q c n there moves =
-        answered (unsent_fault (length p.setup.book) c.node c.command) p.setup p.course c.node n c.command p.links.items q.links.items
+        answered (unsent_fault (length p.setup.book) c.node c.command) p.setup p.history c.node n c.command p.links.items q.links.items
         c.reply q.said there moves.answers
 
     ran : (p q : port.ServersPort I O P) (calls : List AdminCall) (n : ℕ) → There p.links.items n → Runs by p calls q

@@ -19,13 +19,13 @@ use Rattle.server_commands.specs.declared.answers.Answered.{Answered}
 use Rattle.server_commands.specs.declared.answers.Answered.TheVariants as told
 use Rattle.server_links.specs.Limits.{line_limit, texts_limit}
 use Rattle.server_links.specs.Streams.{Question}
-use Rattle.redis_servers.specs.Courses.{Course, IsEmptied}
+use Rattle.redis_servers.specs.RunHistories.{RunHistory, IsEmptied}
 use Rattle.redis_servers.specs.Duties.{duties_before, duties_done}
 use Rattle.redis_servers.specs.Hearers.{hearers_done}
 use Rattle.redis_servers.specs.Meeting.{HearsAll, MeetsAll}
 use Rattle.redis_servers.specs.Saying.{KeepsText, SaysUseless}
 use Rattle.redis_servers.specs.declared.commanding.Outcome.{Outcome}
-use Rattle.redis_servers.specs.declared.halt.Halt.{Halt}
+use Rattle.redis_servers.specs.declared.port_stop.PortStop.{PortStop}
 use Rattle.redis_servers.specs.declared.hearers.Hearer.{Hearer}
 use Rattle.redis_servers.specs.declared.setup.PortSetup.{PortSetup}
 
@@ -64,9 +64,9 @@ is_excuse t = is (codes "ERR Please use SETSLOT only with masters.") t
     || (begins (codes "UNBLOCKED ") t || begins (codes "NOREPLICAS ") t)
 
 -- a node that is told that a slot is another's was emptied by this run, or is by that
-abbrev pub IsExcused : PortSetup → Course → (node : ℕ) → AdminCommand → Type 0
-IsExcused x course n (SetNode slot owner) = ((owner == n) ≡ false) × IsEmptied course x.survey n slot
-IsExcused x course n other = ⊥
+abbrev pub IsExcused : PortSetup → RunHistory → (node : ℕ) → AdminCommand → Type 0
+IsExcused x history n (SetNode slot owner) = ((owner == n) ≡ false) × IsEmptied history x.survey n slot
+IsExcused x history n other = ⊥
 
 -- Such an answer counts as done only at a node that was emptied: it follows the node that took its last slot, which has
 -- shown that the slot is its own.
@@ -85,68 +85,69 @@ SaysNothing excused n c r =
 
 -- What a reply gives: what it says to the administrator, and what is kept of its text. Or it says nothing, and that is
 -- told, or there is no memory for it.
-abbrev pub IsOutcome : PortSetup → Course → (node : ℕ) → AdminCommand → Reply → Given → Option (List ℕ) → Type 0
-IsOutcome x course n c r (Ok reply) said =
-    Reads (IsExcused x course n c) n c r (told.Reply reply) × KeepsText x.credentials r said
-IsOutcome x course n c r (Err f) said =
-    (f ≡ Wire) × SaysUseless (SaysNothing (IsExcused x course n c) n c r) x.credentials n r said
+abbrev pub IsOutcome : PortSetup → RunHistory → (node : ℕ) → AdminCommand → Reply → Given → Option (List ℕ) → Type 0
+IsOutcome x history n c r (Ok reply) said =
+    Reads (IsExcused x history n c) n c r (told.Reply reply) × KeepsText x.credentials r said
+IsOutcome x history n c r (Err f) said =
+    (f ≡ Wire) × SaysUseless (SaysNothing (IsExcused x history n c) n c r) x.credentials n r said
 
 -- ---- what is answered
 
 -- Other servers have heard of what the command changed, and its answer stands. It stands, too, where one has not heard
 -- of it when the time is over, and that one is named. Or one of them gives no list, and whether the command was done is
 -- not answered.
-abbrev pub IsHeard : Outcome → Result (Option (List ℕ)) Halt → Given → Option (List ℕ) → Type 0
+abbrev pub IsHeard : Outcome → Result (Option (List ℕ)) PortStop → Given → Option (List ℕ) → Type 0
 IsHeard o (Ok None) given said = (given ≡ o.given) × (said ≡ o.said)
 IsHeard o (Ok (Some text)) given said = (given ≡ o.given) × (said ≡ Some text)
 IsHeard o (Err h) given said = (given ≡ Err h.fault) × (said ≡ h.said)
 
-module _ {L : Type 0} (asks : Question → List L → (node : ℕ) → Result Reply Halt → List L → Type 0) where
+module _ {L : Type 0} (asks : Question → List L →
+    (node : ℕ) → Result Reply PortStop → List L → Type 0) where
   -- The command goes to the node, whole, and this is what its reply gives. Or there is no reply, and that is said.
-  abbrev pub Commands : PortSetup → Course → (request : List ℕ) → (node : ℕ) → AdminCommand → List L → Given
+  abbrev pub Commands : PortSetup → RunHistory → (request : List ℕ) → (node : ℕ) → AdminCommand → List L → Given
       → Option (List ℕ) → List L → Type 0
-  Commands x course request n c links (Ok reply) said links' = (r : Reply)
+  Commands x history request n c links (Ok reply) said links' = (r : Reply)
       × asks (record { request = request; limit = limit_of c }) links n (Ok r) links'
-      × IsOutcome x course n c r (Ok reply) said
-  Commands x course request n c links (Err f) said links' =
+      × IsOutcome x history n c r (Ok reply) said
+  Commands x history request n c links (Err f) said links' =
       asks (record { request = request; limit = limit_of c }) links n (Err (record { fault = f; said = said })) links'
       ⊎ ((r : Reply) × asks (record { request = request; limit = limit_of c }) links n (Ok r) links'
-      × IsOutcome x course n c r (Err f) said)
+      × IsOutcome x history n c r (Err f) said)
 
   -- other servers hear of what the command changed
-  abbrev pub Spreads : PortSetup → Course → List Hearer → Outcome → List L → Given → Option (List ℕ) → List L → Type 0
-  Spreads x course hearers o links given said links' = (heard : Result (Option (List ℕ)) Halt)
-      × HearsAll asks x course hearers links heard links' × IsHeard o heard given said
+  abbrev pub Spreads : PortSetup → RunHistory → List Hearer → Outcome → List L → Given → Option (List ℕ) → List L → Type 0
+  Spreads x history hearers o links given said links' = (heard : Result (Option (List ℕ)) PortStop)
+      × HearsAll asks x history hearers links heard links' × IsHeard o heard given said
 
   -- What servers have to show after the command, by what it was answered: they show it, and then other servers hear of
   -- it; or they do not, and whether the command was done is not answered.
-  abbrev pub Confirms : PortSetup → Course → (node : ℕ) → AdminCommand → Outcome → List L → Given → Option (List ℕ)
+  abbrev pub Confirms : PortSetup → RunHistory → (node : ℕ) → AdminCommand → Outcome → List L → Given → Option (List ℕ)
       → List L → Type 0
-  Confirms x course n c o links given said links' =
-      ((mid : List L) × MeetsAll asks x course (duties_done course x.survey n c o.given) links (Ok tt) mid
-      × Spreads x course (hearers_done x.waits_for_news x.survey n c o.given) o mid given said links')
-      ⊎ ((h : Halt) × MeetsAll asks x course (duties_done course x.survey n c o.given) links (Err h) links'
+  Confirms x history n c o links given said links' =
+      ((mid : List L) × MeetsAll asks x history (duties_done history x.survey n c o.given) links (Ok tt) mid
+      × Spreads x history (hearers_done x.waits_for_news x.survey n c o.given) o mid given said links')
+      ⊎ ((h : PortStop) × MeetsAll asks x history (duties_done history x.survey n c o.given) links (Err h) links'
       × (given ≡ Err h.fault) × (said ≡ h.said))
 
   -- The command goes to the node once servers show what they have to before it, and its answer stands once they show
   -- what they have to after it. Or they do not show what they have to before it.
-  abbrev pub Sends : PortSetup → Course → (node : ℕ) → AdminCommand → List L → Given → Option (List ℕ) → List L → Type 0
-  Sends x course n c links given said links' =
+  abbrev pub Sends : PortSetup → RunHistory → (node : ℕ) → AdminCommand → List L → Given → Option (List ℕ) → List L → Type 0
+  Sends x history n c links given said links' =
       ((mid : List L) × (o : Outcome) × (later : List L)
-      × MeetsAll asks x course (duties_before x.waits_for_news course x.survey n c) links (Ok tt) mid
-      × Commands x course (request_of x.book x.timeout x.credentials c) n c mid o.given o.said later
-      × Confirms x course n c o later given said links')
-      ⊎ ((h : Halt) × MeetsAll asks x course (duties_before x.waits_for_news course x.survey n c) links (Err h) links'
+      × MeetsAll asks x history (duties_before x.waits_for_news history x.survey n c) links (Ok tt) mid
+      × Commands x history (request_of x.book x.timeout x.credentials c) n c mid o.given o.said later
+      × Confirms x history n c o later given said links')
+      ⊎ ((h : PortStop) × MeetsAll asks x history (duties_before x.waits_for_news history x.survey n c) links (Err h) links'
       × (given ≡ Err h.fault) × (said ≡ h.said))
 
   -- a command that has a refusal is answered by it, with nothing sent, and any other one is sent
-  abbrev pub AnswersBy : Option AdminFault → PortSetup → Course → (node : ℕ) → AdminCommand → List L → Given
+  abbrev pub AnswersBy : Option AdminFault → PortSetup → RunHistory → (node : ℕ) → AdminCommand → List L → Given
       → Option (List ℕ) → List L → Type 0
-  AnswersBy (Some f) x course n c links given said links' =
+  AnswersBy (Some f) x history n c links given said links' =
       (given ≡ Ok (Refused f)) × (said ≡ None) × (links' ≡ links)
-  AnswersBy None x course n c links given said links' = Sends x course n c links given said links'
+  AnswersBy None x history n c links given said links' = Sends x history n c links given said links'
 
-  abbrev pub Answers : PortSetup → Course → (node : ℕ) → AdminCommand → List L → Given → Option (List ℕ) → List L
+  abbrev pub Answers : PortSetup → RunHistory → (node : ℕ) → AdminCommand → List L → Given → Option (List ℕ) → List L
       → Type 0
-  Answers x course n c links given said links' =
-      AnswersBy (unsent_fault (length x.book) n c) x course n c links given said links'
+  Answers x history n c links given said links' =
+      AnswersBy (unsent_fault (length x.book) n c) x history n c links given said links'

@@ -8,7 +8,7 @@ use Rattle.cluster_admin.specs.declared.admin.AdminReply.{AdminReply}
 use Rattle.cluster_admin.specs.declared.admin.AdminReply.TheVariants as admin
 use Rattle.cluster_admin.specs.Surveys.{Survey}
 use Rattle.cluster_admin.specs.declared.port_fault.PortFault.{PortFault}
-use Rattle.redis_servers.specs.Courses.{Course, is_chained, source_of}
+use Rattle.redis_servers.specs.RunHistories.{RunHistory, is_chained, source_of}
 use Rattle.redis_servers.specs.declared.duty.Duty.{Duty}
 use Rattle.redis_servers.specs.declared.duty.Duty.TheVariants.{KnowsEpoch, HasNews, IsMaster, OwnsSlot, IsStillMaster}
 use Rattle.redis_servers.specs.declared.duty.Duty.TheVariants.{ShowsOwner}
@@ -27,7 +27,7 @@ epochs_from t i [] = []
 epochs_from t i (r ∷ rs) = epoch_if (r && not (i == t)) i t ++ epochs_from t (suc i) rs
 
 -- Where a node that gives slots away takes some over, a claim could meet another one with a greater epoch.
-abbrev pub news_at : Course → (t : ℕ) → List Duty
+abbrev pub news_at : RunHistory → (t : ℕ) → List Duty
 news_at x t = cond (is_chained x t) (epochs_from t 0 x.receivers ++ HasNews t ∷ []) []
 
 -- the source is another of the servers, whose role can be asked for
@@ -39,7 +39,7 @@ master_if k t (Some s) = cond (has_role k t s) (IsMaster s ∷ []) []
 master_if k t None = []
 
 -- Where the run waits for news, a node has heard that the source owns a slot before it is to import that from there.
-abbrev pub duties_before : (waits : Bool) → Course → Survey → (node : ℕ) → AdminCommand → List Duty
+abbrev pub duties_before : (waits : Bool) → RunHistory → Survey → (node : ℕ) → AdminCommand → List Duty
 duties_before waits x v n (SetNode slot owner) =
     cond (owner == n) (news_at x n ++ master_if (length v.rows) n (source_of x v slot)) []
 duties_before waits x v n (Importing slot source) = owner_if waits n slot source
@@ -51,13 +51,13 @@ abbrev pub taken_if : (nodes t slot : ℕ) → (source : Option ℕ) → List Du
 taken_if k t slot (Some s) = cond (has_role k t s) (OwnsSlot t slot ∷ (IsStillMaster s slot ∷ [])) []
 taken_if k t slot None = []
 
-abbrev pub duties_after : Course → Survey → (node : ℕ) → AdminCommand → List Duty
+abbrev pub duties_after : RunHistory → Survey → (node : ℕ) → AdminCommand → List Duty
 duties_after x v n (SetNode slot owner) =
     cond (owner == n) (taken_if (length v.rows) n slot (source_of x v slot)) []
 duties_after x v n other = []
 
 -- the same by what the command was answered
-abbrev pub duties_done : Course → Survey → (node : ℕ) → AdminCommand → Result AdminReply PortFault → List Duty
+abbrev pub duties_done : RunHistory → Survey → (node : ℕ) → AdminCommand → Result AdminReply PortFault → List Duty
 duties_done x v n c (Ok admin.Ok) = duties_after x v n c
 duties_done x v n c other = []
 

@@ -15,11 +15,11 @@ use Rattle.server_commands.specs.Spelling.{request_of}
 use Rattle.server_links.specs.Streams.{Question, Streams}
 use Rattle.redis_servers.specs.Asking.{AsksNode}
 use Rattle.redis_servers.specs.Calls.{Commands, Given}
-use Rattle.redis_servers.specs.Courses.{Course}
+use Rattle.redis_servers.specs.RunHistories.{RunHistory}
 use Rattle.redis_servers.specs.Runs.{Runs}
 use Rattle.redis_servers.specs.Saying.{or_lost}
 use Rattle.redis_servers.specs.declared.commanding.Outcome.{Outcome}
-use Rattle.redis_servers.specs.declared.halt.Halt.{Halt}
+use Rattle.redis_servers.specs.declared.port_stop.PortStop.{PortStop}
 use Rattle.redis_servers.specs.declared.port.ServersPort as port
 use Rattle.redis_servers.specs.declared.setup.PortSetup.{PortSetup}
 use Rattle.redis_servers.specs.declared.telling.Telling.{Telling}
@@ -68,29 +68,32 @@ stops_by (Some t) = not t.is_done
 
 -- ---- over the connections
 
-module _ {L : Type 0} (asks : Question → List L → (node : ℕ) → Result Reply Halt → List L → Type 0) where
+module _ {L : Type 0} (asks : Question → List L →
+    (node : ℕ) → Result Reply PortStop → List L → Type 0) where
   -- The command goes to each of the nodes, and each gives this. That is said of one node after the other: no
   -- connection has to do with another one, so it is no matter that all are sent to before the first answer is read.
-  abbrev pub TellsEach : PortSetup → Course → (request : List ℕ) → AdminCommand → List L → (nodes : List ℕ)
+  abbrev pub TellsEach : PortSetup → RunHistory → (request : List ℕ) → AdminCommand → List L → (nodes : List ℕ)
       → List Outcome → List L → Type 0
-  TellsEach x course request c links [] os links' = (os ≡ []) × (links' ≡ links)
-  TellsEach x course request c links (n ∷ ns) os links' = (o : Outcome) × (rest : List Outcome) × (mid : List L)
-      × (os ≡ o ∷ rest) × Commands asks x course request n c links o.given o.said mid
-      × TellsEach x course request c mid ns rest links'
+  TellsEach x history request c links [] os links' = (os ≡ []) × (links' ≡ links)
+  TellsEach x history request c links (n ∷ ns) os links' = (o : Outcome) × (rest : List Outcome) × (mid : List L)
+      × (os ≡ o ∷ rest) × Commands asks x history request n c links o.given o.said mid
+      × TellsEach x history request c mid ns rest links'
 
   -- so it goes to each, and the answers are put after others, the last one first
-  abbrev pub TellsOn : PortSetup → Course → (request : List ℕ) → AdminCommand → List L → (nodes : List ℕ)
+  abbrev pub TellsOn : PortSetup → RunHistory → (request : List ℕ) → AdminCommand → List L
+      → (nodes : List ℕ)
       → (answers answers' : List Given) → Option Telling → List L → Type 0
-  TellsOn x course request c links nodes answers answers' told links' = (os : List Outcome)
-      × TellsEach x course request c links nodes os links'
+  TellsOn x history request c links nodes answers answers' told links' = (os : List Outcome)
+      × TellsEach x history request c links nodes os links'
       × (answers' ≡ answers ++ reverse (map (λ o. o.given) os)) × (told ≡ telling os)
 
-module _ {L : Type 0} (hears : Question → List L → (node : ℕ) → Result Reply Halt → List L → Type 0) where
+module _ {L : Type 0} (hears : Question → List L →
+    (node : ℕ) → Result Reply PortStop → List L → Type 0) where
   -- the node's answer to what was sent to it is read, unless it could not be sent
-  abbrev pub Finishes : PortSetup → Course → (node : ℕ) → AdminCommand → Result (Unit {0}) Halt → List L → Given
+  abbrev pub Finishes : PortSetup → RunHistory → (node : ℕ) → AdminCommand → Result (Unit {0}) PortStop → List L → Given
       → Option (List ℕ) → List L → Type 0
-  Finishes x course n c (Ok u) links given said links' = Commands hears x course [] n c links given said links'
-  Finishes x course n c (Err h) links given said links' =
+  Finishes x history n c (Ok u) links given said links' = Commands hears x history [] n c links given said links'
+  Finishes x history n c (Err h) links given said links' =
       (given ≡ Err h.fault) × (said ≡ h.said) × (links' ≡ links)
 
 -- ---- the port
@@ -100,13 +103,13 @@ pub record TellsInOneGo {I O P : Type 0} (by : Streams I O) (slot owner : ℕ) (
     (p : port.ServersPort I O P) (answers : List Given) (q : port.ServersPort I O P) : Type 0 where
   pub open_before : p.has_stopped ≡ false
   pub outcomes : List Outcome
-  pub each : TellsEach (AsksNode by) p.setup p.course
+  pub each : TellsEach (AsksNode by) p.setup p.history
       (request_of p.setup.book p.setup.timeout p.setup.credentials (SetNode slot owner)) (SetNode slot owner)
       p.links.items nodes outcomes q.links.items
   pub answers_are : answers ≡ map (λ o. o.given) outcomes
   pub said : q.said ≡ said_of (telling outcomes)
   pub setup : q.setup ≡ p.setup
-  pub course : q.course ≡ p.course
+  pub history : q.history ≡ p.history
   pub stopped : q.has_stopped ≡ not (list_all is_done answers)
   pub unheard : q.unheard ≡ p.unheard
 

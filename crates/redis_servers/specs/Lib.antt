@@ -1,6 +1,6 @@
 pub mod Asking
 pub mod Calls
-pub mod Courses
+pub mod RunHistories
 pub mod Duties
 pub mod Hearers
 pub mod Hearing

@@ -4,10 +4,10 @@ use Rattle.std.specs.Prelude.{List}
 use Rattle.std.specs.List.{list_any}
 use Rattle.std.specs.Prelude.{Option, Some, Result, Ok, Err, IsTrue, codes, is_some, length}
 use Rattle.byte_texts.specs.Words.{is}
-use Rattle.cluster_nodes.specs.Nodes.{nodes_of_text}
-use Rattle.cluster_nodes.specs.declared.node_line.NodeLine.{NodeLine}
-use Rattle.cluster_nodes.specs.declared.slot_word.SlotWord.{SlotWord}
-use Rattle.cluster_nodes.specs.declared.slot_word.SlotWord.TheVariants.{Slots}
+use Rattle.listed_nodes.specs.Nodes.{nodes_of_text}
+use Rattle.listed_nodes.specs.declared.node_line.NodeLine.{NodeLine}
+use Rattle.listed_nodes.specs.declared.slot_word.SlotWord.{SlotWord}
+use Rattle.listed_nodes.specs.declared.slot_word.SlotWord.TheVariants.{Slots}
 use Rattle.cluster_admin.specs.declared.port_fault.PortFault.TheVariants.{Wire}
 use Rattle.resp2_wire.specs.Tree.{Trees, bulk, more}
 use Rattle.resp2_wire.specs.declared.reply.Reply.{Reply}
@@ -18,10 +18,10 @@ use Rattle.server_commands.specs.declared.book.Server.{Server}
 use Rattle.server_links.specs.Limits.{line_limit}
 use Rattle.server_links.specs.Streams.{Question}
 use Rattle.cluster_admin.specs.Surveys.{Survey}
-use Rattle.redis_servers.specs.Courses.{Course, taken_from, takes}
+use Rattle.redis_servers.specs.RunHistories.{RunHistory, taken_from, takes}
 use Rattle.redis_servers.specs.Hearing.{IsNoList, epoch_named, same_epoch}
 use Rattle.redis_servers.specs.Saying.{SaysUseless}
-use Rattle.redis_servers.specs.declared.halt.Halt.{Halt}
+use Rattle.redis_servers.specs.declared.port_stop.PortStop.{PortStop}
 use Rattle.redis_servers.specs.declared.setup.PortSetup.{PortSetup}
 
 -- ---- ROLE
@@ -46,7 +46,7 @@ HasNoRole (reply.Array rs) = ⊥
 HasNoRole other = Unit {0}
 
 -- the node's reply is of no use
-abbrev pub IsNoRole : Option Credentials → (node : ℕ) → Reply → Halt → Type 0
+abbrev pub IsNoRole : Option Credentials → (node : ℕ) → Reply → PortStop → Type 0
 IsNoRole login n r h = (h.fault ≡ Wire) × SaysUseless (HasNoRole r) login n r h.said
 
 -- ---- what a list of nodes shows
@@ -68,20 +68,20 @@ abbrev pub shows_owner : (name : List ℕ) → (slot : ℕ) → List NodeLine �
 shows_owner name s ns = list_any (λ l. is name l.name && l.is_master && has_slot s l.slots) ns
 
 -- one of so many slots from this one on comes from the node, and another has taken it over
-abbrev pub taken_within : Course → Survey → (t first count : ℕ) → Bool
+abbrev pub taken_within : RunHistory → Survey → (t first count : ℕ) → Bool
 taken_within x v t first zero = false
 taken_within x v t first (suc k) = is_some (taken_from x v t first) || taken_within x v t (suc first) k
 
 -- the word claims such a slot
-abbrev pub claims_taken : Course → Survey → (t : ℕ) → SlotWord → Bool
+abbrev pub claims_taken : RunHistory → Survey → (t : ℕ) → SlotWord → Bool
 claims_taken x v t (Slots first last) = taken_within x v t first (suc last - first)
 claims_taken x v t other = false
 
-abbrev pub claims_any : Course → Survey → (t : ℕ) → List SlotWord → Bool
+abbrev pub claims_any : RunHistory → Survey → (t : ℕ) → List SlotWord → Bool
 claims_any x v t ws = list_any (claims_taken x v t) ws
 
 -- the server that answers claims such a slot
-abbrev pub still_claims : Course → Survey → (t : ℕ) → List NodeLine → Bool
+abbrev pub still_claims : RunHistory → Survey → (t : ℕ) → List NodeLine → Bool
 still_claims x v t ls = list_any (λ l. l.is_myself && claims_any x v t l.slots) ls
 
 -- both nodes take slots over, and one epoch is told of both
@@ -97,14 +97,14 @@ AreApart book t rs ns = (y : ℕ) → y < length book → IsApart book t rs ns y
 
 -- The node claims no slot any more that another one took over from it, and it has heard of epochs of which no two are
 -- the same.
-pub record ShowsNews (x : PortSetup) (course : Course) (t : ℕ) (ns : List NodeLine) : Type 0 where
-  pub slots : still_claims course x.survey t ns ≡ false
-  pub epochs : AreApart x.book t course.receivers ns
+pub record ShowsNews (x : PortSetup) (history : RunHistory) (t : ℕ) (ns : List NodeLine) : Type 0 where
+  pub slots : still_claims history x.survey t ns ≡ false
+  pub epochs : AreApart x.book t history.receivers ns
 
 -- ---- looks
 
 -- the run ends here, and this is said
-abbrev pub StopsWith : (words : List ℕ) → Halt → Type 0
+abbrev pub StopsWith : (words : List ℕ) → PortStop → Type 0
 StopsWith words h = (h.fault ≡ Wire) × (h.said ≡ Some words)
 
 -- the reply lists these nodes
@@ -112,23 +112,23 @@ abbrev pub Lists : Reply → List NodeLine → Type 0
 Lists (reply.Bulk t) ns = nodes_of_text t ≡ Some ns
 Lists other ns = ⊥
 
-module _ {L : Type 0} (asks : Question → List L → (node : ℕ) → Result Reply Halt → List L → Type 0)
+module _ {L : Type 0} (asks : Question → List L → (node : ℕ) → Result Reply PortStop → List L → Type 0)
     (login : Option Credentials) where
   -- a server is asked for its nodes: these are its lines, or there is a reason why there are none
-  abbrev pub LooksAt : Question → List L → (node : ℕ) → Result (List NodeLine) Halt → List L → Type 0
+  abbrev pub LooksAt : Question → List L → (node : ℕ) → Result (List NodeLine) PortStop → List L → Type 0
   LooksAt q links n (Ok ns) links' = (r : Reply) × asks q links n (Ok r) links' × Lists r ns
   LooksAt q links n (Err h) links' = asks q links n (Err h) links'
       ⊎ ((r : Reply) × asks q links n (Ok r) links' × IsNoList login n r h)
 
   -- a server is asked for its role: whether it is a master, or why that is not known
-  abbrev pub AsksRole : List L → (node : ℕ) → Result Bool Halt → List L → Type 0
+  abbrev pub AsksRole : List L → (node : ℕ) → Result Bool PortStop → List L → Type 0
   AsksRole links n (Ok b) links' = (r : Reply) × asks role_question links n (Ok r) links' × TellsRole r b
   AsksRole links n (Err h) links' = asks role_question links n (Err h) links'
       ⊎ ((r : Reply) × asks role_question links n (Ok r) links' × IsNoRole login n r h)
 
   module _ (q : Question) (Shows : List NodeLine → Type 0) (n : ℕ) where
     -- one look, and whether it shows what is waited for
-    abbrev pub LookTurn : List L → Result Bool Halt → List L → Type 0
+    abbrev pub LookTurn : List L → Result Bool PortStop → List L → Type 0
     LookTurn links (Ok b) links' = (ns : List NodeLine) × LooksAt q links n (Ok ns) links' × (IsTrue b ↔ Shows ns)
     LookTurn links (Err h) links' = LooksAt q links n (Err h) links'
 
@@ -138,11 +138,11 @@ module _ {L : Type 0} (asks : Question → List L → (node : ℕ) → Result Re
     LookTurns (suc k) links links' = (mid : List L) × LookTurns k links mid × LookTurn mid (Ok false) links'
 
     -- looks that do not, and then a last one
-    abbrev pub LastLook : List L → Result Bool Halt → List L → Type 0
+    abbrev pub LastLook : List L → Result Bool PortStop → List L → Type 0
     LastLook links r links' = (k : ℕ) × (mid : List L) × LookTurns k links mid × LookTurn mid r links'
 
     -- The wait: its last look shows it. Or it does not, and this is said, or it was cut short.
-    abbrev pub LooksUntil : (words : List ℕ) → List L → Result (Unit {0}) Halt → List L → Type 0
+    abbrev pub LooksUntil : (words : List ℕ) → List L → Result (Unit {0}) PortStop → List L → Type 0
     LooksUntil words links (Ok u) links' = LastLook links (Ok true) links'
     LooksUntil words links (Err h) links' = LastLook links (Err h) links'
         ⊎ (LastLook links (Ok false) links' × StopsWith words h)

@@ -2,7 +2,7 @@
 ghost use Rattle.std.specs.Prelude.{◌≡◌, ◌<◌, Some, length, slice_get, vec_len};
 ghost use Rattle.redis_servers.specs.Asking.{AsksNode, HearsFrom, IsSilent, SendsTo, sent_question};
 
-use crate::halt::Halt;
+use crate::port_stop::PortStop;
 use crate::words::silence;
 use byte_streams::{ByteIn, ByteOut};
 use byte_texts::Text;
@@ -18,7 +18,7 @@ pub(crate) fn ask_node<I: ByteIn + Drop, O: ByteOut + Drop>(
     node: NodeId,
     request: &[u8],
     limit: ReplyLimit,
-) -> Result<Reply, Halt>
+) -> Result<Reply, PortStop>
     requires { node < vec_len links.old }
     ensures asked { AsksNode (record { gave = I.gave; took = O.took })
         (record { request = request.now; limit = limit }) links.old.items node result links.new.items }
@@ -26,7 +26,7 @@ pub(crate) fn ask_node<I: ByteIn + Drop, O: ByteOut + Drop>(
 {
     match ask_at(alloc, links, node, request, limit) {
         Ok(reply) => Ok(reply),
-        Err(fault) => Err(Halt {
+        Err(fault) => Err(PortStop {
             fault,
             said: silence_at(alloc, links.as_slice(), node),
         }),
@@ -39,7 +39,7 @@ pub(crate) fn send_to<I: ByteIn + Drop, O: ByteOut + Drop>(
     links: &mut Vec<Link<I, O>>,
     node: NodeId,
     request: &[u8],
-) -> Result<(), Halt>
+) -> Result<(), PortStop>
     requires { node < vec_len links.old }
     ensures sent { SendsTo (record { gave = I.gave; took = O.took }) request.now links.old.items node result
         links.new.items }
@@ -47,7 +47,7 @@ pub(crate) fn send_to<I: ByteIn + Drop, O: ByteOut + Drop>(
 {
     match send_at(links, node, request) {
         Ok(()) => Ok(()),
-        Err(fault) => Err(Halt {
+        Err(fault) => Err(PortStop {
             fault,
             said: silence_at(alloc, links.as_slice(), node),
         }),
@@ -60,7 +60,7 @@ pub(crate) fn hear_from<I: ByteIn + Drop, O: ByteOut + Drop>(
     links: &mut Vec<Link<I, O>>,
     node: NodeId,
     limit: ReplyLimit,
-) -> Result<Reply, Halt>
+) -> Result<Reply, PortStop>
     requires { node < vec_len links.old }
     ensures heard { HearsFrom (record { gave = I.gave; took = O.took }) (sent_question limit) links.old.items node
         result links.new.items }
@@ -68,7 +68,7 @@ pub(crate) fn hear_from<I: ByteIn + Drop, O: ByteOut + Drop>(
 {
     match receive_at(alloc, links, node, limit) {
         Ok(reply) => Ok(reply),
-        Err(fault) => Err(Halt {
+        Err(fault) => Err(PortStop {
             fault,
             said: silence_at(alloc, links.as_slice(), node),
         }),

@@ -6,8 +6,8 @@ ghost use Rattle.redis_servers.specs.Calls.{Commands, IsExcused, IsOutcome, Read
 ghost use Rattle.redis_servers.specs.InOneGo.{Finishes};
 
 use crate::asking::{ask_node, hear_from};
-use crate::course::Course;
-use crate::halt::Halt;
+use crate::run_history::RunHistory;
+use crate::port_stop::PortStop;
 use crate::setup::PortSetup;
 use crate::words::{text_kept, useless_words};
 use byte_streams::{ByteIn, ByteOut};
@@ -34,20 +34,20 @@ pub(crate) fn command_at<I: ByteIn + Drop, O: ByteOut + Drop>(
     alloc: Global,
     links: &mut Vec<Link<I, O>>,
     setup: &PortSetup,
-    course: &Course,
+    history: &RunHistory,
     node: NodeId,
     command: &AdminCommand,
     request: &[u8],
 ) -> Outcome
     requires there { node < vec_len links.old }
     requires row { node < length setup.now.survey.rows }
-    ensures commanded { Commands (AsksNode (record { gave = I.gave; took = O.took })) setup.now course.now request.now
+    ensures commanded { Commands (AsksNode (record { gave = I.gave; took = O.took })) setup.now history.now request.now
         node command.now links.old.items result.given result.said links.new.items }
     ensures count { vec_len links.new ≡ vec_len links.old }
 {
     match ask_node(alloc, links, node, request, limit_of(command)) {
-        Ok(reply) => outcome_of(alloc, setup, course, node, command, &reply),
-        Err(Halt { fault, said }) => Outcome {
+        Ok(reply) => outcome_of(alloc, setup, history, node, command, &reply),
+        Err(PortStop { fault, said }) => Outcome {
             given: Err(fault),
             said,
         },
@@ -59,20 +59,20 @@ pub(crate) fn finish_at<I: ByteIn + Drop, O: ByteOut + Drop>(
     alloc: Global,
     links: &mut Vec<Link<I, O>>,
     setup: &PortSetup,
-    course: &Course,
+    history: &RunHistory,
     node: NodeId,
     command: &AdminCommand,
-    sent: Result<(), Halt>,
+    sent: Result<(), PortStop>,
 ) -> Outcome
     requires there { node < vec_len links.old }
     requires row { node < length setup.now.survey.rows }
-    ensures finished { Finishes (HearsFrom (record { gave = I.gave; took = O.took })) setup.now course.now node
+    ensures finished { Finishes (HearsFrom (record { gave = I.gave; took = O.took })) setup.now history.now node
         command.now sent links.old.items result.given result.said links.new.items }
     ensures count { vec_len links.new ≡ vec_len links.old }
 {
     match sent {
-        Ok(()) => heard_at(alloc, links, setup, course, node, command),
-        Err(Halt { fault, said }) => Outcome {
+        Ok(()) => heard_at(alloc, links, setup, history, node, command),
+        Err(PortStop { fault, said }) => Outcome {
             given: Err(fault),
             said,
         },
@@ -83,19 +83,19 @@ fn heard_at<I: ByteIn + Drop, O: ByteOut + Drop>(
     alloc: Global,
     links: &mut Vec<Link<I, O>>,
     setup: &PortSetup,
-    course: &Course,
+    history: &RunHistory,
     node: NodeId,
     command: &AdminCommand,
 ) -> Outcome
     requires there { node < vec_len links.old }
     requires row { node < length setup.now.survey.rows }
-    ensures heard { Commands (HearsFrom (record { gave = I.gave; took = O.took })) setup.now course.now [] node
+    ensures heard { Commands (HearsFrom (record { gave = I.gave; took = O.took })) setup.now history.now [] node
         command.now links.old.items result.given result.said links.new.items }
     ensures count { vec_len links.new ≡ vec_len links.old }
 {
     match hear_from(alloc, links, node, limit_of(command)) {
-        Ok(reply) => outcome_of(alloc, setup, course, node, command, &reply),
-        Err(Halt { fault, said }) => Outcome {
+        Ok(reply) => outcome_of(alloc, setup, history, node, command, &reply),
+        Err(PortStop { fault, said }) => Outcome {
             given: Err(fault),
             said,
         },
@@ -117,15 +117,15 @@ fn limit_of(command: &AdminCommand) -> ReplyLimit
 fn outcome_of(
     alloc: Global,
     setup: &PortSetup,
-    course: &Course,
+    history: &RunHistory,
     node: NodeId,
     command: &AdminCommand,
     reply: &Reply,
 ) -> Outcome
     requires { node < length setup.now.survey.rows }
-    ensures { IsOutcome setup.now course.now node command.now reply.now result.given result.said }
+    ensures { IsOutcome setup.now history.now node command.now reply.now result.given result.said }
 {
-    match read(alloc, setup, course, node, command, reply) {
+    match read(alloc, setup, history, node, command, reply) {
         Ok(Answered::Reply(given)) => Outcome {
             given: Ok(given),
             said: text_kept(alloc, &setup.credentials, reply),
@@ -145,17 +145,17 @@ fn outcome_of(
 fn read(
     alloc: Global,
     setup: &PortSetup,
-    course: &Course,
+    history: &RunHistory,
     node: NodeId,
     command: &AdminCommand,
     reply: &Reply,
 ) -> Result<Answered, Memory>
     requires { node < length setup.now.survey.rows }
-    ensures { IfOk result (Reads (IsExcused setup.now course.now node command.now) node command.now reply.now) }
+    ensures { IfOk result (Reads (IsExcused setup.now history.now node command.now) node command.now reply.now) }
 {
     if let Reply::Error(text) = reply {
         if is_excuse(text.get()) {
-            if is_excused(setup, course, node, command) {
+            if is_excused(setup, history, node, command) {
                 return Ok(Answered::Reply(AdminReply::Ok));
             }
             return Ok(Answered::Error(text.try_copy(alloc)?));
@@ -174,13 +174,13 @@ fn is_excuse(text: &[u8]) -> bool
 }
 
 /// Whether the node is told that a slot is another's, and this run has emptied it.
-fn is_excused(setup: &PortSetup, course: &Course, node: NodeId, command: &AdminCommand) -> bool
+fn is_excused(setup: &PortSetup, history: &RunHistory, node: NodeId, command: &AdminCommand) -> bool
     requires { node < length setup.now.survey.rows }
-    ensures { IsTrue result ↔ IsExcused setup.now course.now node command.now }
+    ensures { IsTrue result ↔ IsExcused setup.now history.now node command.now }
 {
     match command {
         AdminCommand::SetNode(slot, owner) => {
-            *owner != node && course.is_emptied(&setup.survey, node, *slot)
+            *owner != node && history.is_emptied(&setup.survey, node, *slot)
         }
         _ => false,
     }

@@ -2,7 +2,7 @@
 ghost use Rattle.std.specs.Prelude.{◌≡◌, ◌<◌, IfOk, length};
 ghost use Rattle.redis_servers.specs.Duties.{duties_after, duties_before, has_role, news_at, owner_if, taken_if};
 
-use crate::course::Course;
+use crate::run_history::RunHistory;
 use byte_texts::Memory;
 use cluster_admin::{AdminCommand, Survey};
 use key_slots::{NodeId, Slot};
@@ -33,19 +33,19 @@ pub enum Duty {
 /// the slot, takes it for its own at once (Valkey).
 pub(crate) fn duties_before(
     alloc: Global,
-    course: &Course,
+    history: &RunHistory,
     survey: &Survey,
     waits_for_news: bool,
     node: NodeId,
     command: &AdminCommand,
 ) -> Result<Vec<Duty>, Memory>
-    requires { length course.now.receivers ≡ length survey.now.rows }
-    ensures { IfOk result (λ v. v.items ≡ duties_before waits_for_news course.now survey.now node command.now) }
+    requires { length history.now.receivers ≡ length survey.now.rows }
+    ensures { IfOk result (λ v. v.items ≡ duties_before waits_for_news history.now survey.now node command.now) }
 {
     match command {
         AdminCommand::SetNode(slot, owner) if *owner == node => {
-            let mut duties = news_at(alloc, course, survey.nodes(), node)?;
-            if let Some(source) = course.source(survey, *slot) {
+            let mut duties = news_at(alloc, history, survey.nodes(), node)?;
+            if let Some(source) = history.source(survey, *slot) {
                 if has_role(survey.nodes(), node, source) {
                     duties.push(Duty::IsMaster(source))?;
                 }
@@ -79,12 +79,12 @@ fn owner_if(
 /// What has to be shown after the node has done the command.
 pub(crate) fn duties_after(
     alloc: Global,
-    course: &Course,
+    history: &RunHistory,
     survey: &Survey,
     node: NodeId,
     command: &AdminCommand,
 ) -> Result<Vec<Duty>, Memory>
-    ensures { IfOk result (λ v. v.items ≡ duties_after course.now survey.now node command.now) }
+    ensures { IfOk result (λ v. v.items ≡ duties_after history.now survey.now node command.now) }
 {
     match command {
         AdminCommand::SetNode(slot, owner) if *owner == node => {
@@ -93,7 +93,7 @@ pub(crate) fn duties_after(
                 survey.nodes(),
                 node,
                 *slot,
-                course.source(survey, *slot),
+                history.source(survey, *slot),
             )
         }
         _ => Ok(Vec::new(alloc)),
@@ -101,17 +101,17 @@ pub(crate) fn duties_after(
 }
 
 /// What is to be known of other servers' claims before this node makes one.
-fn news_at(alloc: Global, course: &Course, nodes: u8, target: NodeId) -> Result<Vec<Duty>, Memory>
-    requires { length course.now.receivers ≡ nodes }
-    ensures { IfOk result (λ v. v.items ≡ news_at course.now target) }
+fn news_at(alloc: Global, history: &RunHistory, nodes: u8, target: NodeId) -> Result<Vec<Duty>, Memory>
+    requires { length history.now.receivers ≡ nodes }
+    ensures { IfOk result (λ v. v.items ≡ news_at history.now target) }
 {
     let mut duties = Vec::new(alloc);
-    if !course.is_chained(target) {
+    if !history.is_chained(target) {
         return Ok(duties);
     }
     for number in 0..nodes {
         let source = NodeId::of(number);
-        if course.is_receiver(source) && source != target {
+        if history.is_receiver(source) && source != target {
             duties.push(Duty::KnowsEpoch(source, target))?;
         }
     }

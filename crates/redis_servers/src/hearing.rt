@@ -6,13 +6,13 @@ ghost use Rattle.redis_servers.specs.Hearing.{epoch_named, same_epoch};
 ghost use Rattle.redis_servers.specs.Hearing.{unheard_text};
 
 use crate::asking::ask_node;
-use crate::halt::{Halt, continue_if};
+use crate::port_stop::{PortStop, continue_if};
 use crate::pause::Pause;
 use crate::words::{node_words, useless_words};
 use byte_streams::{ByteIn, ByteOut};
 use byte_texts::{Memory, Text};
 use cluster_admin::PortFault;
-use cluster_nodes::{NodeLine, nodes_in};
+use listed_nodes::{NodeLine, nodes_in};
 use key_slots::NodeId;
 use resp2_wire::Reply;
 use server_commands::{Credentials, NODES_REQUEST};
@@ -41,16 +41,16 @@ fn epoch_in(
     node: NodeId,
     reply: &Reply,
     name: &[u8],
-) -> Result<Option<u64>, Halt>
+) -> Result<Option<u64>, PortStop>
     ensures { MatchResult result (Tells name.now reply.now) (IsNoList login.now node reply.now) }
 {
     match listed_epoch(alloc, reply, name) {
         Ok(Some(epoch)) => Ok(epoch),
-        Ok(None) => Err(Halt {
+        Ok(None) => Err(PortStop {
             fault: PortFault::Wire,
             said: useless_words(alloc, login, node, reply),
         }),
-        Err(_) => Err(Halt {
+        Err(_) => Err(PortStop {
             fault: PortFault::Wire,
             said: None,
         }),
@@ -77,7 +77,7 @@ fn look_up<I: ByteIn + Drop, O: ByteOut + Drop>(
     login: &Option<Credentials>,
     node: NodeId,
     name: &[u8],
-) -> Result<Option<u64>, Halt>
+) -> Result<Option<u64>, PortStop>
     requires { node < vec_len links.old }
     ensures looked { LooksUp (AsksNode (record { gave = I.gave; took = O.took }) nodes_question) login.now name.now
         links.old.items node result links.new.items }
@@ -85,7 +85,7 @@ fn look_up<I: ByteIn + Drop, O: ByteOut + Drop>(
 {
     match ask_node(alloc, links, node, NODES_REQUEST, ReplyLimit::text()) {
         Ok(reply) => epoch_in(alloc, login, node, &reply, name),
-        Err(halt) => Err(halt),
+        Err(port_stop) => Err(port_stop),
     }
 }
 
@@ -106,7 +106,7 @@ fn has_heard<I: ByteIn + Drop, O: ByteOut + Drop>(
     source: NodeId,
     target: NodeId,
     name: &[u8],
-) -> Result<bool, Halt>
+) -> Result<bool, PortStop>
     requires source { source < vec_len links.old }
     requires target { target < vec_len links.old }
     ensures turn { Turn (AsksNode (record { gave = I.gave; took = O.took }) nodes_question) login.now name.now source
@@ -116,9 +116,9 @@ fn has_heard<I: ByteIn + Drop, O: ByteOut + Drop>(
     match look_up(alloc, links, login, source, name) {
         Ok(own) => match look_up(alloc, links, login, target, name) {
             Ok(told) => Ok(same_epoch(own, told)),
-            Err(halt) => Err(halt),
+            Err(port_stop) => Err(port_stop),
         },
-        Err(halt) => Err(halt),
+        Err(port_stop) => Err(port_stop),
     }
 }
 
@@ -133,7 +133,7 @@ pub(crate) fn wait_until_heard<I: ByteIn + Drop, O: ByteOut + Drop, P: Pause>(
     target: NodeId,
     name: &[u8],
     text: Text,
-) -> Result<(), Halt>
+) -> Result<(), PortStop>
     requires source { source < vec_len links.old }
     requires target { target < vec_len links.old }
     requires text { text ≡ unheard_text source target }
@@ -143,7 +143,7 @@ pub(crate) fn wait_until_heard<I: ByteIn + Drop, O: ByteOut + Drop, P: Pause>(
 {
     match hears_in_time(alloc, links, pause, login, source, target, name) {
         Ok(heard) => continue_if(heard, text),
-        Err(halt) => Err(halt),
+        Err(port_stop) => Err(port_stop),
     }
 }
 
@@ -156,7 +156,7 @@ fn hears_in_time<I: ByteIn + Drop, O: ByteOut + Drop, P: Pause>(
     source: NodeId,
     target: NodeId,
     name: &[u8],
-) -> Result<bool, Halt>
+) -> Result<bool, PortStop>
     requires source { source < vec_len links.old }
     requires target { target < vec_len links.old }
     ensures last { LastTurn (AsksNode (record { gave = I.gave; took = O.took }) nodes_question) login.now name.now
@@ -168,7 +168,7 @@ fn hears_in_time<I: ByteIn + Drop, O: ByteOut + Drop, P: Pause>(
         match has_heard(alloc, links, login, source, target, name) {
             Ok(true) => return Ok(true),
             Ok(false) => {}
-            Err(halt) => return Err(halt),
+            Err(port_stop) => return Err(port_stop),
         }
         if !pause.pause() {
             return Ok(false);

@@ -4,9 +4,9 @@
 
 mod asking;
 mod commanding;
-mod course;
+mod run_history;
 mod duty;
-mod halt;
+mod port_stop;
 mod hearers;
 mod hearing;
 mod laws;

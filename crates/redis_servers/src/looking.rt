@@ -7,12 +7,12 @@ ghost use Rattle.redis_servers.specs.Looking.{AsksRole, HasNoRole, IsNoRole, Lis
 ghost use Rattle.redis_servers.specs.Looking.{role_request};
 
 use crate::asking::ask_node;
-use crate::halt::Halt;
+use crate::port_stop::PortStop;
 use crate::words::useless_words;
 use byte_streams::{ByteIn, ByteOut};
 use byte_texts::{Memory, is};
 use cluster_admin::PortFault;
-use cluster_nodes::{NodeLines, nodes_in};
+use listed_nodes::{NodeLines, nodes_in};
 use key_slots::NodeId;
 use resp2_wire::Reply;
 use server_commands::{Credentials, NODES_REQUEST};
@@ -28,7 +28,7 @@ pub(crate) fn look_at<I: ByteIn + Drop, O: ByteOut + Drop>(
     links: &mut Vec<Link<I, O>>,
     login: &Option<Credentials>,
     node: NodeId,
-) -> Result<NodeLines, Halt>
+) -> Result<NodeLines, PortStop>
     requires { node < vec_len links.old }
     ensures looked { LooksAt (AsksNode (record { gave = I.gave; took = O.took })) login.now nodes_question
         links.old.items node result links.new.items }
@@ -36,7 +36,7 @@ pub(crate) fn look_at<I: ByteIn + Drop, O: ByteOut + Drop>(
 {
     match ask_node(alloc, links, node, NODES_REQUEST, ReplyLimit::text()) {
         Ok(reply) => lines_in(alloc, login, node, &reply),
-        Err(halt) => Err(halt),
+        Err(port_stop) => Err(port_stop),
     }
 }
 
@@ -47,16 +47,16 @@ fn lines_in(
     login: &Option<Credentials>,
     node: NodeId,
     reply: &Reply,
-) -> Result<NodeLines, Halt>
+) -> Result<NodeLines, PortStop>
     ensures { MatchResult result (Lists reply.now) (IsNoList login.now node reply.now) }
 {
     match listed(alloc, reply) {
         Ok(Some(lines)) => Ok(lines),
-        Ok(None) => Err(Halt {
+        Ok(None) => Err(PortStop {
             fault: PortFault::Wire,
             said: useless_words(alloc, login, node, reply),
         }),
-        Err(_) => Err(Halt {
+        Err(_) => Err(PortStop {
             fault: PortFault::Wire,
             said: None,
         }),
@@ -78,7 +78,7 @@ pub(crate) fn role_at<I: ByteIn + Drop, O: ByteOut + Drop>(
     links: &mut Vec<Link<I, O>>,
     login: &Option<Credentials>,
     node: NodeId,
-) -> Result<bool, Halt>
+) -> Result<bool, PortStop>
     requires { node < vec_len links.old }
     ensures asked { AsksRole (AsksNode (record { gave = I.gave; took = O.took })) login.now links.old.items node result
         links.new.items }
@@ -86,7 +86,7 @@ pub(crate) fn role_at<I: ByteIn + Drop, O: ByteOut + Drop>(
 {
     match ask_node(alloc, links, node, ROLE_REQUEST, ReplyLimit::line()) {
         Ok(reply) => role_in(alloc, login, node, &reply),
-        Err(halt) => Err(halt),
+        Err(port_stop) => Err(port_stop),
     }
 }
 
@@ -97,12 +97,12 @@ fn role_in(
     login: &Option<Credentials>,
     node: NodeId,
     reply: &Reply,
-) -> Result<bool, Halt>
+) -> Result<bool, PortStop>
     ensures { MatchResult result (TellsRole reply.now) (IsNoRole login.now node reply.now) }
 {
     match reply {
         Reply::Array(replies) => Ok(begins_master(replies.get())),
-        _ => Err(Halt {
+        _ => Err(PortStop {
             fault: PortFault::Wire,
             said: useless_words(alloc, login, node, reply),
         }),

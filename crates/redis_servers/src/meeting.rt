@@ -8,9 +8,9 @@ ghost use Rattle.redis_servers.specs.Meeting.{Hears, HearsAll, Meets, MeetsAll, 
 ghost use Rattle.redis_servers.specs.Meeting.{ShowsStill};
 ghost use Rattle.redis_servers.specs.Unmet.{disowned_text, late_text, lost_writes_text, replica_text, unmet_text};
 
-use crate::course::Course;
+use crate::run_history::RunHistory;
 use crate::duty::Duty;
-use crate::halt::{Halt, continue_if};
+use crate::port_stop::{PortStop, continue_if};
 use crate::hearers::Hearer;
 use crate::hearing::wait_until_heard;
 use crate::looking::{look_at, role_at};
@@ -19,7 +19,7 @@ use crate::setup::PortSetup;
 use crate::shown::{owns_slot, shows_news, shows_owner};
 use byte_streams::{ByteIn, ByteOut};
 use byte_texts::Text;
-use cluster_nodes::NodeLine;
+use listed_nodes::NodeLine;
 use key_slots::{NodeId, Slot};
 use server_links::Link;
 
@@ -27,17 +27,17 @@ use server_links::Link;
 /// then, that of the first duty last.
 pub(crate) fn meet_all<I: ByteIn + Drop, O: ByteOut + Drop, P: Pause>(
     setup: &PortSetup,
-    course: &Course,
+    history: &RunHistory,
     links: &mut Vec<Link<I, O>>,
     pause: &mut P,
     duties: &[Duty],
     texts: &mut Vec<Text>,
-) -> Result<(), Halt>
+) -> Result<(), PortStop>
     requires there { AreThere (length setup.now.book) duties.now }
     requires texts { reverse texts.old.items ≡ map unmet_text duties.now }
     requires links { vec_len links.old ≡ length setup.now.book }
     requires rows { length setup.now.survey.rows ≡ length setup.now.book }
-    ensures met { MeetsAll (AsksNode (record { gave = I.gave; took = O.took })) setup.now course.now duties.now
+    ensures met { MeetsAll (AsksNode (record { gave = I.gave; took = O.took })) setup.now history.now duties.now
         links.old.items result links.new.items }
     ensures count { vec_len links.new ≡ vec_len links.old }
 {
@@ -47,9 +47,9 @@ pub(crate) fn meet_all<I: ByteIn + Drop, O: ByteOut + Drop, P: Pause>(
     let Some(text) = texts.pop() else {
         unreachable!();
     };
-    match meet(setup, course, links, pause, *duty, text) {
-        Ok(()) => meet_all(setup, course, links, pause, others, texts),
-        Err(halt) => Err(halt),
+    match meet(setup, history, links, pause, *duty, text) {
+        Ok(()) => meet_all(setup, history, links, pause, others, texts),
+        Err(port_stop) => Err(port_stop),
     }
 }
 
@@ -58,17 +58,17 @@ pub(crate) fn meet_all<I: ByteIn + Drop, O: ByteOut + Drop, P: Pause>(
 /// first server last.
 pub(crate) fn hear_all<I: ByteIn + Drop, O: ByteOut + Drop, P: Pause>(
     setup: &PortSetup,
-    course: &Course,
+    history: &RunHistory,
     links: &mut Vec<Link<I, O>>,
     pause: &mut P,
     hearers: &[Hearer],
     texts: &mut Vec<Text>,
-) -> Result<Option<Text>, Halt>
+) -> Result<Option<Text>, PortStop>
     requires there { CanHear (length setup.now.book) hearers.now }
     requires texts { reverse texts.old.items ≡ map late_text hearers.now }
     requires links { vec_len links.old ≡ length setup.now.book }
     requires rows { length setup.now.survey.rows ≡ length setup.now.book }
-    ensures heard { HearsAll (AsksNode (record { gave = I.gave; took = O.took })) setup.now course.now hearers.now
+    ensures heard { HearsAll (AsksNode (record { gave = I.gave; took = O.took })) setup.now history.now hearers.now
         links.old.items result links.new.items }
     ensures count { vec_len links.new ≡ vec_len links.old }
 {
@@ -78,47 +78,47 @@ pub(crate) fn hear_all<I: ByteIn + Drop, O: ByteOut + Drop, P: Pause>(
     let Some(text) = texts.pop() else {
         unreachable!();
     };
-    match hears(setup, course, links, pause, *hearer) {
-        Ok(true) => hear_all(setup, course, links, pause, others, texts),
+    match hears(setup, history, links, pause, *hearer) {
+        Ok(true) => hear_all(setup, history, links, pause, others, texts),
         Ok(false) => Ok(Some(text)),
-        Err(halt) => Err(halt),
+        Err(port_stop) => Err(port_stop),
     }
 }
 
 /// Whether the server's list shows the slot's owner before the time is over.
 fn hears<I: ByteIn + Drop, O: ByteOut + Drop, P: Pause>(
     setup: &PortSetup,
-    course: &Course,
+    history: &RunHistory,
     links: &mut Vec<Link<I, O>>,
     pause: &mut P,
     hearer: Hearer,
-) -> Result<bool, Halt>
+) -> Result<bool, PortStop>
     requires node { hearer.node < length setup.now.book }
     requires owner { hearer.owner < length setup.now.book }
     requires links { vec_len links.old ≡ length setup.now.book }
     requires rows { length setup.now.survey.rows ≡ length setup.now.book }
-    ensures hears { Hears (AsksNode (record { gave = I.gave; took = O.took })) setup.now course.now hearer
+    ensures hears { Hears (AsksNode (record { gave = I.gave; took = O.took })) setup.now history.now hearer
         links.old.items result links.new.items }
     ensures count { vec_len links.new ≡ vec_len links.old }
 {
     let Hearer { node, slot, owner } = hearer;
     let duty = Duty::ShowsOwner(node, slot, owner);
-    shows_in_time(setup, course, links, pause, &duty, node)
+    shows_in_time(setup, history, links, pause, &duty, node)
 }
 
 fn meet<I: ByteIn + Drop, O: ByteOut + Drop, P: Pause>(
     setup: &PortSetup,
-    course: &Course,
+    history: &RunHistory,
     links: &mut Vec<Link<I, O>>,
     pause: &mut P,
     duty: Duty,
     text: Text,
-) -> Result<(), Halt>
+) -> Result<(), PortStop>
     requires there { IsThere (length setup.now.book) duty }
     requires text { text ≡ unmet_text duty }
     requires links { vec_len links.old ≡ length setup.now.book }
     requires rows { length setup.now.survey.rows ≡ length setup.now.book }
-    ensures met { Meets (AsksNode (record { gave = I.gave; took = O.took })) setup.now course.now duty links.old.items
+    ensures met { Meets (AsksNode (record { gave = I.gave; took = O.took })) setup.now history.now duty links.old.items
         result links.new.items }
     ensures count { vec_len links.new ≡ vec_len links.old }
 {
@@ -133,14 +133,14 @@ fn meet<I: ByteIn + Drop, O: ByteOut + Drop, P: Pause>(
             setup.book.server(source).name.get(),
             text,
         ),
-        Duty::HasNews(node) => { wait_until_shown(setup, course, links, pause, &duty, node, text) }
+        Duty::HasNews(node) => { wait_until_shown(setup, history, links, pause, &duty, node, text) }
         Duty::ShowsOwner(node, _, _) => {
-            wait_until_shown(setup, course, links, pause, &duty, node, text)
+            wait_until_shown(setup, history, links, pause, &duty, node, text)
         }
         Duty::IsMaster(source) => check_master(setup, links, source, text),
         Duty::OwnsSlot(target, slot) => check_owner(setup, links, target, slot, text),
         Duty::IsStillMaster(source, slot) => {
-            check_still(setup, course, links, source, slot, text)
+            check_still(setup, history, links, source, slot, text)
         }
     }
 }
@@ -148,85 +148,85 @@ fn meet<I: ByteIn + Drop, O: ByteOut + Drop, P: Pause>(
 /// Waits until the node's list shows what it has to.
 fn wait_until_shown<I: ByteIn + Drop, O: ByteOut + Drop, P: Pause>(
     setup: &PortSetup,
-    course: &Course,
+    history: &RunHistory,
     links: &mut Vec<Link<I, O>>,
     pause: &mut P,
     duty: &Duty,
     node: NodeId,
     text: Text,
-) -> Result<(), Halt>
+) -> Result<(), PortStop>
     requires duty { IsThere (length setup.now.book) duty.now }
     requires there { node < vec_len links.old }
     requires rows { length setup.now.survey.rows ≡ length setup.now.book }
     requires text { text ≡ unmet_text duty.now }
     ensures waits { LooksUntil (AsksNode (record { gave = I.gave; took = O.took })) setup.now.credentials nodes_question
-        (Shows setup.now course.now duty.now) node (unmet_text duty.now) links.old.items result links.new.items }
+        (Shows setup.now history.now duty.now) node (unmet_text duty.now) links.old.items result links.new.items }
     ensures count { vec_len links.new ≡ vec_len links.old }
 {
-    match shows_in_time(setup, course, links, pause, duty, node) {
+    match shows_in_time(setup, history, links, pause, duty, node) {
         Ok(shown) => continue_if(shown, text),
-        Err(halt) => Err(halt),
+        Err(port_stop) => Err(port_stop),
     }
 }
 
 /// Whether the node's list shows what it has to before the time is over. It is asked once at least.
 fn shows_in_time<I: ByteIn + Drop, O: ByteOut + Drop, P: Pause>(
     setup: &PortSetup,
-    course: &Course,
+    history: &RunHistory,
     links: &mut Vec<Link<I, O>>,
     pause: &mut P,
     duty: &Duty,
     node: NodeId,
-) -> Result<bool, Halt>
+) -> Result<bool, PortStop>
     requires duty { IsThere (length setup.now.book) duty.now }
     requires there { node < vec_len links.old }
     requires rows { length setup.now.survey.rows ≡ length setup.now.book }
     ensures last { LastLook (AsksNode (record { gave = I.gave; took = O.took })) setup.now.credentials nodes_question
-        (Shows setup.now course.now duty.now) node links.old.items result links.new.items }
+        (Shows setup.now history.now duty.now) node links.old.items result links.new.items }
     ensures count { vec_len links.new ≡ vec_len links.old }
 {
     pause.begin();
     for _ in 0..u64::MAX {
-        match look_for(setup, course, links, duty, node) {
+        match look_for(setup, history, links, duty, node) {
             Ok(true) => return Ok(true),
             Ok(false) => {}
-            Err(halt) => return Err(halt),
+            Err(port_stop) => return Err(port_stop),
         }
         if !pause.pause() {
             return Ok(false);
         }
     }
-    look_for(setup, course, links, duty, node)
+    look_for(setup, history, links, duty, node)
 }
 
 /// Looks once whether the node's list shows what it has to.
 fn look_for<I: ByteIn + Drop, O: ByteOut + Drop>(
     setup: &PortSetup,
-    course: &Course,
+    history: &RunHistory,
     links: &mut Vec<Link<I, O>>,
     duty: &Duty,
     node: NodeId,
-) -> Result<bool, Halt>
+) -> Result<bool, PortStop>
     requires duty { IsThere (length setup.now.book) duty.now }
     requires there { node < vec_len links.old }
     requires rows { length setup.now.survey.rows ≡ length setup.now.book }
     ensures turn { LookTurn (AsksNode (record { gave = I.gave; took = O.took })) setup.now.credentials nodes_question
-        (Shows setup.now course.now duty.now) node links.old.items result links.new.items }
+        (Shows setup.now history.now duty.now) node links.old.items result links.new.items }
     ensures count { vec_len links.new ≡ vec_len links.old }
 {
     match look_at(setup.alloc, links, &setup.credentials, node) {
-        Ok(nodes) => Ok(shows(setup, course, duty, nodes.get())),
-        Err(halt) => Err(halt),
+        Ok(nodes) => Ok(shows(setup, history, duty, nodes.get())),
+        Err(port_stop) => Err(port_stop),
     }
 }
 
-fn shows(setup: &PortSetup, course: &Course, duty: &Duty, nodes: &[NodeLine]) -> bool
+fn shows(setup: &PortSetup, history: &RunHistory, duty: &Duty, nodes: &[NodeLine]) -> bool
     requires duty { IsThere (length setup.now.book) duty.now }
     requires rows { length setup.now.survey.rows ≡ length setup.now.book }
-    ensures { IsTrue result ↔ Shows setup.now course.now duty.now nodes.now }
+    ensures { IsTrue result ↔ Shows setup.now history.now duty.now nodes.now }
 {
     match duty {
-        Duty::HasNews(node) => shows_news(setup, course, *node, nodes),
+        Duty::HasNews(node) => shows_news(setup, history, *node, nodes),
         Duty::ShowsOwner(_, slot, owner) => {
             shows_owner(setup.book.server(*owner).name.get(), *slot, nodes)
         }
@@ -240,7 +240,7 @@ fn check_master<I: ByteIn + Drop, O: ByteOut + Drop>(
     links: &mut Vec<Link<I, O>>,
     source: NodeId,
     text: Text,
-) -> Result<(), Halt>
+) -> Result<(), PortStop>
     requires source { source < vec_len links.old }
     requires text { text ≡ replica_text source }
     ensures shows { ShowsMaster (AsksNode (record { gave = I.gave; took = O.took })) setup.now source links.old.items
@@ -249,7 +249,7 @@ fn check_master<I: ByteIn + Drop, O: ByteOut + Drop>(
 {
     match role_at(setup.alloc, links, &setup.credentials, source) {
         Ok(is_master) => continue_if(is_master, text),
-        Err(halt) => Err(halt),
+        Err(port_stop) => Err(port_stop),
     }
 }
 
@@ -260,7 +260,7 @@ fn check_owner<I: ByteIn + Drop, O: ByteOut + Drop>(
     target: NodeId,
     slot: Slot,
     text: Text,
-) -> Result<(), Halt>
+) -> Result<(), PortStop>
     requires target { target < vec_len links.old }
     requires text { text ≡ disowned_text target }
     ensures shows { ShowsOwned (AsksNode (record { gave = I.gave; took = O.took })) setup.now target slot
@@ -269,29 +269,29 @@ fn check_owner<I: ByteIn + Drop, O: ByteOut + Drop>(
 {
     match look_at(setup.alloc, links, &setup.credentials, target) {
         Ok(nodes) => continue_if(owns_slot(slot, nodes.get()), text),
-        Err(halt) => Err(halt),
+        Err(port_stop) => Err(port_stop),
     }
 }
 
 /// The source is a master still, or this slot was its last one.
 fn check_still<I: ByteIn + Drop, O: ByteOut + Drop>(
     setup: &PortSetup,
-    course: &Course,
+    history: &RunHistory,
     links: &mut Vec<Link<I, O>>,
     source: NodeId,
     slot: Slot,
     text: Text,
-) -> Result<(), Halt>
+) -> Result<(), PortStop>
     requires there { source < vec_len links.old }
     requires row { source < length setup.now.survey.rows }
     requires text { text ≡ lost_writes_text source }
-    ensures shows { ShowsStill (AsksNode (record { gave = I.gave; took = O.took })) setup.now course.now source slot
+    ensures shows { ShowsStill (AsksNode (record { gave = I.gave; took = O.took })) setup.now history.now source slot
         links.old.items result links.new.items }
     ensures count { vec_len links.new ≡ vec_len links.old }
 {
     match role_at(setup.alloc, links, &setup.credentials, source) {
         Ok(true) => Ok(()),
-        Ok(false) => { continue_if(course.is_emptied(&setup.survey, source, slot), text) }
-        Err(halt) => Err(halt),
+        Ok(false) => { continue_if(history.is_emptied(&setup.survey, source, slot), text) }
+        Err(port_stop) => Err(port_stop),
     }
 }

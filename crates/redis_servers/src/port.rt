@@ -9,7 +9,7 @@ ghost use Rattle.cluster_admin.specs.declared.port_fault.PortFault.TheVariants.{
 ghost use Rattle.server_commands.specs.Spelling.{Names, request_of as spelled};
 ghost use Rattle.redis_servers.specs.Asking.{AsksNode};
 ghost use Rattle.redis_servers.specs.Calls.{Answers, Commands, Confirms, Sends, Spreads, is_refusal};
-ghost use Rattle.redis_servers.specs.Courses.{IsNewCourse};
+ghost use Rattle.redis_servers.specs.RunHistories.{IsNewCourse};
 ghost use Rattle.redis_servers.specs.Duties.{AreThere, duties_after, duties_before};
 ghost use Rattle.redis_servers.specs.Hearers.{CanHear, hearers_after};
 ghost use Rattle.redis_servers.specs.Meeting.{HearsAll, MeetsAll};
@@ -19,9 +19,9 @@ ghost use Rattle.redis_servers.specs.Told.{TellsClosed, TellsSame};
 ghost use Rattle.redis_servers.specs.Unmet.{late_text, unmet_text};
 
 use crate::commanding::{Given, Outcome, command_at};
-use crate::course::Course;
+use crate::run_history::RunHistory;
 use crate::duty::{Duty, duties_after, duties_before};
-use crate::halt::Halt;
+use crate::port_stop::PortStop;
 use crate::hearers::{Hearer, hearers_after};
 use crate::meeting::{hear_all, meet_all};
 use crate::pause::Pause;
@@ -55,15 +55,15 @@ use std::alloc::Global;
 pub struct ServersPort<I: Drop, O: Drop, P: Drop> {
     setup: PortSetup,
     links: Vec<Link<I, O>>,
-    course: Course,
+    history: RunHistory,
     pause: P,
     said: Option<Text>,
     has_stopped: bool,
     unheard: u64,
     ghost links_named: { vec_len links ≡ length setup.book },
     ghost rows: { length setup.survey.rows ≡ length setup.book },
-    ghost receivers: { length course.receivers ≡ length setup.book },
-    ghost givers: { length course.givers ≡ length setup.book },
+    ghost receivers: { length history.receivers ≡ length setup.book },
+    ghost givers: { length history.givers ≡ length setup.book },
 }
 
 impl<I: ByteIn + Drop, O: ByteOut + Drop, P: Pause + Drop> ServersPort<I, O, P> {
@@ -96,12 +96,12 @@ impl<I: ByteIn + Drop, O: ByteOut + Drop, P: Pause + Drop> ServersPort<I, O, P> 
               survey = survey;
               waits_for_news = waits_for_news;
             }) }
-        ensures course { IfOk result (λ p. IsNewCourse survey p.course) }
+        ensures history { IfOk result (λ p. IsNewCourse survey p.history) }
         ensures said { IfOk result (λ p. p.said ≡ None) }
         ensures open { IfOk result (λ p. p.has_stopped ≡ false) }
         ensures unheard { IfOk result (λ p. p.unheard ≡ 0) }
     {
-        let course = Course::new(alloc, &survey)?;
+        let history = RunHistory::new(alloc, &survey)?;
         Ok(Self {
             setup: PortSetup {
                 alloc,
@@ -112,7 +112,7 @@ impl<I: ByteIn + Drop, O: ByteOut + Drop, P: Pause + Drop> ServersPort<I, O, P> 
                 waits_for_news,
             },
             links,
-            course,
+            history,
             pause,
             said: None,
             has_stopped: false,
@@ -164,7 +164,7 @@ impl<I: ByteIn + Drop, O: ByteOut + Drop, P: Pause + Drop> ServersPort<I, O, P> 
         match given {
             Ok(reply) => {
                 drop(lost);
-                self.course.note(node, command, &reply);
+                self.history.note(node, command, &reply);
                 if is_unheard(node, command, &reply, &said) {
                     self.unheard = self.unheard.saturating_add(1);
                 }
@@ -239,7 +239,7 @@ impl<I: ByteIn + Drop, O: ByteOut + Drop, P: Pause + Drop> ServersPort<I, O, P> 
             self.setup.alloc,
             &mut self.links,
             &self.setup,
-            &self.course,
+            &self.history,
             &AdminCommand::SetNode(slot, owner),
             request.as_slice(),
             nodes,
@@ -255,7 +255,7 @@ impl<I: ByteIn + Drop, O: ByteOut + Drop, P: Pause + Drop> ServersPort<I, O, P> 
     fn settle(&mut self, said: Option<Text>, stops: bool)
         ensures links { self.new.links ≡ self.old.links }
         ensures setup { self.new.setup ≡ self.old.setup }
-        ensures course { self.new.course ≡ self.old.course }
+        ensures history { self.new.history ≡ self.old.history }
         ensures unheard { self.new.unheard ≡ self.old.unheard }
         ensures said { self.new.said ≡ said }
         ensures stopped { self.new.has_stopped ≡ stops }
@@ -269,10 +269,10 @@ impl<I: ByteIn + Drop, O: ByteOut + Drop, P: Pause + Drop> ServersPort<I, O, P> 
         requires { node < length self.old.setup.book }
         ensures memory { result.given ≡ Err Memory → self.new ≡ self.old }
         ensures answers { result.given ≢ Err Memory
-            → Answers (AsksNode (record { gave = I.gave; took = O.took })) self.old.setup self.old.course node
+            → Answers (AsksNode (record { gave = I.gave; took = O.took })) self.old.setup self.old.history node
             command.now self.old.links.items result.given result.said self.new.links.items }
         ensures setup { self.new.setup ≡ self.old.setup }
-        ensures course { self.new.course ≡ self.old.course }
+        ensures history { self.new.history ≡ self.old.history }
         ensures unheard { self.new.unheard ≡ self.old.unheard }
     {
         if let Some(fault) = self.setup.unsent_fault(node, command) {
@@ -298,17 +298,17 @@ impl<I: ByteIn + Drop, O: ByteOut + Drop, P: Pause + Drop> ServersPort<I, O, P> 
         requires request { prepared.request.items
             ≡ spelled self.old.setup.book self.old.setup.timeout self.old.setup.credentials command.now }
         requires before { prepared.before.items
-            ≡ duties_before self.old.setup.waits_for_news self.old.course self.old.setup.survey node command.now }
-        requires after { prepared.after.items ≡ duties_after self.old.course self.old.setup.survey node command.now }
+            ≡ duties_before self.old.setup.waits_for_news self.old.history self.old.setup.survey node command.now }
+        requires after { prepared.after.items ≡ duties_after self.old.history self.old.setup.survey node command.now }
         requires hearers { prepared.hearers.items
             ≡ hearers_after self.old.setup.waits_for_news self.old.setup.survey node command.now }
         requires unmet { reverse prepared.unmet.items ≡ map unmet_text prepared.before.items }
         requires undone { reverse prepared.undone.items ≡ map unmet_text prepared.after.items }
         requires late { reverse prepared.late.items ≡ map late_text prepared.hearers.items }
-        ensures sends { Sends (AsksNode (record { gave = I.gave; took = O.took })) self.old.setup self.old.course node
+        ensures sends { Sends (AsksNode (record { gave = I.gave; took = O.took })) self.old.setup self.old.history node
             command.now self.old.links.items result.given result.said self.new.links.items }
         ensures setup { self.new.setup ≡ self.old.setup }
-        ensures course { self.new.course ≡ self.old.course }
+        ensures history { self.new.history ≡ self.old.history }
         ensures unheard { self.new.unheard ≡ self.old.unheard }
     {
         let Readied {
@@ -333,7 +333,7 @@ impl<I: ByteIn + Drop, O: ByteOut + Drop, P: Pause + Drop> ServersPort<I, O, P> 
                     spread,
                 )
             }
-            Err(halt) => outcome_of_halt(halt),
+            Err(port_stop) => outcome_of_halt(port_stop),
         }
     }
 
@@ -348,15 +348,15 @@ impl<I: ByteIn + Drop, O: ByteOut + Drop, P: Pause + Drop> ServersPort<I, O, P> 
         spread: Spread,
     ) -> Outcome
         requires node { node < length self.old.setup.book }
-        requires after { after.now ≡ duties_after self.old.course self.old.setup.survey node command.now }
+        requires after { after.now ≡ duties_after self.old.history self.old.setup.survey node command.now }
         requires undone { reverse undone.old.items ≡ map unmet_text after.now }
         requires hearers { spread.hearers.items
             ≡ hearers_after self.old.setup.waits_for_news self.old.setup.survey node command.now }
         requires late { reverse spread.late.items ≡ map late_text spread.hearers.items }
-        ensures confirms { Confirms (AsksNode (record { gave = I.gave; took = O.took })) self.old.setup self.old.course
+        ensures confirms { Confirms (AsksNode (record { gave = I.gave; took = O.took })) self.old.setup self.old.history
             node command.now outcome self.old.links.items result.given result.said self.new.links.items }
         ensures setup { self.new.setup ≡ self.old.setup }
-        ensures course { self.new.course ≡ self.old.course }
+        ensures history { self.new.history ≡ self.old.history }
         ensures unheard { self.new.unheard ≡ self.old.unheard }
     {
         if !is_done(&outcome.given) {
@@ -364,9 +364,9 @@ impl<I: ByteIn + Drop, O: ByteOut + Drop, P: Pause + Drop> ServersPort<I, O, P> 
         }
         match self.meet(after, undone) {
             Ok(()) => self.spread(outcome, spread),
-            Err(halt) => {
+            Err(port_stop) => {
                 drop(outcome);
-                outcome_of_halt(halt)
+                outcome_of_halt(port_stop)
             }
         }
     }
@@ -376,36 +376,36 @@ impl<I: ByteIn + Drop, O: ByteOut + Drop, P: Pause + Drop> ServersPort<I, O, P> 
     fn spread(&mut self, outcome: Outcome, spread: Spread) -> Outcome
         requires there { CanHear (length self.old.setup.book) spread.hearers.items }
         requires late { reverse spread.late.items ≡ map late_text spread.hearers.items }
-        ensures spreads { Spreads (AsksNode (record { gave = I.gave; took = O.took })) self.old.setup self.old.course
+        ensures spreads { Spreads (AsksNode (record { gave = I.gave; took = O.took })) self.old.setup self.old.history
             spread.hearers.items outcome self.old.links.items result.given result.said self.new.links.items }
         ensures setup { self.new.setup ≡ self.old.setup }
-        ensures course { self.new.course ≡ self.old.course }
+        ensures history { self.new.history ≡ self.old.history }
         ensures unheard { self.new.unheard ≡ self.old.unheard }
     {
         let Spread { hearers, mut late } = spread;
         match self.hear(hearers.as_slice(), &mut late) {
             Ok(None) => outcome,
             Ok(Some(text)) => said_with(outcome, text),
-            Err(halt) => {
+            Err(port_stop) => {
                 drop(outcome);
-                outcome_of_halt(halt)
+                outcome_of_halt(port_stop)
             }
         }
     }
 
     /// Servers hear of a slot's new owner, or the first that has not in time is named by its text.
-    fn hear(&mut self, hearers: &[Hearer], texts: &mut Vec<Text>) -> Result<Option<Text>, Halt>
+    fn hear(&mut self, hearers: &[Hearer], texts: &mut Vec<Text>) -> Result<Option<Text>, PortStop>
         requires there { CanHear (length self.old.setup.book) hearers.now }
         requires texts { reverse texts.old.items ≡ map late_text hearers.now }
-        ensures heard { HearsAll (AsksNode (record { gave = I.gave; took = O.took })) self.old.setup self.old.course
+        ensures heard { HearsAll (AsksNode (record { gave = I.gave; took = O.took })) self.old.setup self.old.history
             hearers.now self.old.links.items result self.new.links.items }
         ensures setup { self.new.setup ≡ self.old.setup }
-        ensures course { self.new.course ≡ self.old.course }
+        ensures history { self.new.history ≡ self.old.history }
         ensures unheard { self.new.unheard ≡ self.old.unheard }
     {
         hear_all(
             &self.setup,
-            &self.course,
+            &self.history,
             &mut self.links,
             &mut self.pause,
             hearers,
@@ -414,18 +414,18 @@ impl<I: ByteIn + Drop, O: ByteOut + Drop, P: Pause + Drop> ServersPort<I, O, P> 
     }
 
     /// Servers show what they have to, or one of these texts is said.
-    fn meet(&mut self, duties: &[Duty], texts: &mut Vec<Text>) -> Result<(), Halt>
+    fn meet(&mut self, duties: &[Duty], texts: &mut Vec<Text>) -> Result<(), PortStop>
         requires there { AreThere (length self.old.setup.book) duties.now }
         requires texts { reverse texts.old.items ≡ map unmet_text duties.now }
-        ensures met { MeetsAll (AsksNode (record { gave = I.gave; took = O.took })) self.old.setup self.old.course
+        ensures met { MeetsAll (AsksNode (record { gave = I.gave; took = O.took })) self.old.setup self.old.history
             duties.now self.old.links.items result self.new.links.items }
         ensures setup { self.new.setup ≡ self.old.setup }
-        ensures course { self.new.course ≡ self.old.course }
+        ensures history { self.new.history ≡ self.old.history }
         ensures unheard { self.new.unheard ≡ self.old.unheard }
     {
         meet_all(
             &self.setup,
-            &self.course,
+            &self.history,
             &mut self.links,
             &mut self.pause,
             duties,
@@ -436,17 +436,17 @@ impl<I: ByteIn + Drop, O: ByteOut + Drop, P: Pause + Drop> ServersPort<I, O, P> 
     /// Sends the command.
     fn command(&mut self, node: NodeId, command: &AdminCommand, request: &[u8]) -> Outcome
         requires { node < length self.old.setup.book }
-        ensures commands { Commands (AsksNode (record { gave = I.gave; took = O.took })) self.old.setup self.old.course
+        ensures commands { Commands (AsksNode (record { gave = I.gave; took = O.took })) self.old.setup self.old.history
             request.now node command.now self.old.links.items result.given result.said self.new.links.items }
         ensures setup { self.new.setup ≡ self.old.setup }
-        ensures course { self.new.course ≡ self.old.course }
+        ensures history { self.new.history ≡ self.old.history }
         ensures unheard { self.new.unheard ≡ self.old.unheard }
     {
         command_at(
             self.setup.alloc,
             &mut self.links,
             &self.setup,
-            &self.course,
+            &self.history,
             node,
             command,
             request,
@@ -460,9 +460,9 @@ impl<I: ByteIn + Drop, O: ByteOut + Drop, P: Pause + Drop> ServersPort<I, O, P> 
         ensures request { IfOk result (λ x. x.request.items
             ≡ spelled self.now.setup.book self.now.setup.timeout self.now.setup.credentials command.now) }
         ensures before { IfOk result (λ x. x.before.items
-            ≡ duties_before self.now.setup.waits_for_news self.now.course self.now.setup.survey node command.now) }
+            ≡ duties_before self.now.setup.waits_for_news self.now.history self.now.setup.survey node command.now) }
         ensures after { IfOk result
-            (λ x. x.after.items ≡ duties_after self.now.course self.now.setup.survey node command.now) }
+            (λ x. x.after.items ≡ duties_after self.now.history self.now.setup.survey node command.now) }
         ensures hearers { IfOk result (λ x. x.hearers.items
             ≡ hearers_after self.now.setup.waits_for_news self.now.setup.survey node command.now) }
         ensures unmet { IfOk result (λ x. reverse x.unmet.items ≡ map unmet_text x.before.items) }
@@ -476,9 +476,9 @@ impl<I: ByteIn + Drop, O: ByteOut + Drop, P: Pause + Drop> ServersPort<I, O, P> 
             ..
         } = &self.setup;
         let request = self.setup.request(command)?;
-        let before = duties_before(*alloc, &self.course, survey, *waits_for_news, node, command)?;
+        let before = duties_before(*alloc, &self.history, survey, *waits_for_news, node, command)?;
         let unmet = unmet_texts(*alloc, before.as_slice())?;
-        let after = duties_after(*alloc, &self.course, survey, node, command)?;
+        let after = duties_after(*alloc, &self.history, survey, node, command)?;
         let undone = unmet_texts(*alloc, after.as_slice())?;
         let hearers = hearers_after(*alloc, survey, *waits_for_news, node, command)?;
         let late = late_texts(*alloc, hearers.as_slice())?;
@@ -527,11 +527,11 @@ fn said_with(outcome: Outcome, text: Text) -> Outcome
     }
 }
 
-fn outcome_of_halt(halt: Halt) -> Outcome
-    ensures given { result.given ≡ Err halt.fault }
-    ensures said { result.said ≡ halt.said }
+fn outcome_of_halt(port_stop: PortStop) -> Outcome
+    ensures given { result.given ≡ Err port_stop.fault }
+    ensures said { result.said ≡ port_stop.said }
 {
-    let Halt { fault, said } = halt;
+    let PortStop { fault, said } = port_stop;
     Outcome {
         given: Err(fault),
         said,

@@ -3,12 +3,12 @@ ghost use Rattle.std.specs.Prelude.{◌≡◌, ◌↔◌, ◌<◌, ◌-◌, suc,
 ghost use Rattle.redis_servers.specs.Looking.{AreApart, IsApart, ShowsNews, claims_any, claims_taken, clash, covers};
 ghost use Rattle.redis_servers.specs.Looking.{has_slot, owns_slot, shows_owner, still_claims, taken_within};
 
-use crate::course::Course;
+use crate::run_history::RunHistory;
 use crate::hearing::{epoch_named, same_epoch};
 use crate::setup::PortSetup;
 use byte_texts::is;
 use cluster_admin::Survey;
-use cluster_nodes::{NodeLine, SlotWord};
+use listed_nodes::{NodeLine, SlotWord};
 use key_slots::{NodeId, Slot};
 use server_commands::ServerBook;
 
@@ -16,51 +16,51 @@ use server_commands::ServerBook;
 /// are the same. Takes no memory.
 pub(crate) fn shows_news(
     setup: &PortSetup,
-    course: &Course,
+    history: &RunHistory,
     node: NodeId,
     nodes: &[NodeLine],
 ) -> bool
     requires { node < length setup.now.survey.rows }
-    ensures { IsTrue result ↔ ShowsNews setup.now course.now node nodes.now }
+    ensures { IsTrue result ↔ ShowsNews setup.now history.now node nodes.now }
 {
-    !still_claims(course, &setup.survey, node, nodes) && are_apart(&setup.book, course, node, nodes)
+    !still_claims(history, &setup.survey, node, nodes) && are_apart(&setup.book, history, node, nodes)
 }
 
 /// Whether the server that answers claims a slot that another one took over from it.
-fn still_claims(course: &Course, survey: &Survey, node: NodeId, nodes: &[NodeLine]) -> bool
+fn still_claims(history: &RunHistory, survey: &Survey, node: NodeId, nodes: &[NodeLine]) -> bool
     requires { node < length survey.now.rows }
-    ensures { result ≡ still_claims course.now survey.now node nodes.now }
+    ensures { result ≡ still_claims history.now survey.now node nodes.now }
 {
-    nodes.iter().any(|line| line.is_myself && claims_any(course, survey, node, line.slots.get()))
+    nodes.iter().any(|line| line.is_myself && claims_any(history, survey, node, line.slots.get()))
 }
 
-fn claims_any(course: &Course, survey: &Survey, node: NodeId, words: &[SlotWord]) -> bool
+fn claims_any(history: &RunHistory, survey: &Survey, node: NodeId, words: &[SlotWord]) -> bool
     requires { node < length survey.now.rows }
-    ensures { result ≡ claims_any course.now survey.now node words.now }
+    ensures { result ≡ claims_any history.now survey.now node words.now }
 {
     words
         .iter()
-        .any(|word| claims_taken(course, survey, node, word))
+        .any(|word| claims_taken(history, survey, node, word))
 }
 
-fn claims_taken(course: &Course, survey: &Survey, node: NodeId, word: &SlotWord) -> bool
+fn claims_taken(history: &RunHistory, survey: &Survey, node: NodeId, word: &SlotWord) -> bool
     requires { node < length survey.now.rows }
-    ensures { result ≡ claims_taken course.now survey.now node word.now }
+    ensures { result ≡ claims_taken history.now survey.now node word.now }
 {
     match word {
-        SlotWord::Slots(first, last) => taken_within(course, survey, node, *first, *last),
+        SlotWord::Slots(first, last) => taken_within(history, survey, node, *first, *last),
         _ => false,
     }
 }
 
 /// Whether another node took one of these slots over from this one.
-fn taken_within(course: &Course, survey: &Survey, node: NodeId, first: Slot, last: Slot) -> bool
+fn taken_within(history: &RunHistory, survey: &Survey, node: NodeId, first: Slot, last: Slot) -> bool
     requires { node < length survey.now.rows }
-    ensures { result ≡ taken_within course.now survey.now node first (suc last - first) }
+    ensures { result ≡ taken_within history.now survey.now node first (suc last - first) }
 {
     let mut number = first.get();
     while number <= last.get() {
-        if course.taken_from(survey, node, Slot::of(number)).is_some() {
+        if history.taken_from(survey, node, Slot::of(number)).is_some() {
             return true;
         }
         number += 1;
@@ -99,11 +99,11 @@ fn covers(slot: Slot, word: &SlotWord) -> bool
     }
 }
 
-fn are_apart(book: &ServerBook, course: &Course, target: NodeId, nodes: &[NodeLine]) -> bool
-    ensures { IsTrue result ↔ AreApart book.now target course.now.receivers nodes.now }
+fn are_apart(book: &ServerBook, history: &RunHistory, target: NodeId, nodes: &[NodeLine]) -> bool
+    ensures { IsTrue result ↔ AreApart book.now target history.now.receivers nodes.now }
 {
     for number in 0..book.nodes() {
-        if !is_apart(book, course, target, nodes, NodeId::of(number)) {
+        if !is_apart(book, history, target, nodes, NodeId::of(number)) {
             return false;
         }
     }
@@ -113,16 +113,16 @@ fn are_apart(book: &ServerBook, course: &Course, target: NodeId, nodes: &[NodeLi
 /// Whether the epoch that is told of the node is that of none before it, of those that take slots over.
 fn is_apart(
     book: &ServerBook,
-    course: &Course,
+    history: &RunHistory,
     target: NodeId,
     nodes: &[NodeLine],
     node: NodeId,
 ) -> bool
     requires { node < length book.now }
-    ensures { IsTrue result ↔ IsApart book.now target course.now.receivers nodes.now node }
+    ensures { IsTrue result ↔ IsApart book.now target history.now.receivers nodes.now node }
 {
     for number in 0..node.get() {
-        if clash(book, course, target, nodes, node, NodeId::of(number)) {
+        if clash(book, history, target, nodes, node, NodeId::of(number)) {
             return false;
         }
     }
@@ -132,7 +132,7 @@ fn is_apart(
 /// Whether both nodes take slots over, and one epoch is told of both.
 fn clash(
     book: &ServerBook,
-    course: &Course,
+    history: &RunHistory,
     target: NodeId,
     nodes: &[NodeLine],
     node: NodeId,
@@ -140,10 +140,10 @@ fn clash(
 ) -> bool
     requires here { node < length book.now }
     requires there { other < length book.now }
-    ensures { result ≡ clash book.now target course.now.receivers nodes.now node other }
+    ensures { result ≡ clash book.now target history.now.receivers nodes.now node other }
 {
-    course.takes_over(target, node)
-        && course.takes_over(target, other)
+    history.takes_over(target, node)
+        && history.takes_over(target, other)
         && same_epoch(
             epoch_named(nodes, book.server(node).name.get()),
             epoch_named(nodes, book.server(other).name.get()),

@@ -11,7 +11,7 @@ ghost use Rattle.redis_servers.specs.Saying.{lost_text};
 
 use crate::asking::send_to;
 use crate::commanding::{Given, Outcome, finish_at};
-use crate::course::Course;
+use crate::run_history::RunHistory;
 use crate::setup::PortSetup;
 use crate::words::{lost_words, or_lost};
 use byte_streams::{ByteIn, ByteOut};
@@ -67,7 +67,7 @@ pub(crate) fn tell_each<I: ByteIn + Drop, O: ByteOut + Drop>(
     alloc: Global,
     links: &mut Vec<Link<I, O>>,
     setup: &PortSetup,
-    course: &Course,
+    history: &RunHistory,
     command: &AdminCommand,
     request: &[u8],
     nodes: &[NodeId],
@@ -77,7 +77,7 @@ pub(crate) fn tell_each<I: ByteIn + Drop, O: ByteOut + Drop>(
     requires rows { length setup.now.survey.rows ≡ vec_len links.old }
     requires distinct { IsDistinct nodes.now }
     requires room { vec_len answers.old + length nodes.now ≤ vec_capacity answers.old }
-    ensures told { TellsOn (AsksNode (record { gave = I.gave; took = O.took })) setup.now course.now request.now
+    ensures told { TellsOn (AsksNode (record { gave = I.gave; took = O.took })) setup.now history.now request.now
         command.now links.old.items nodes.now answers.old.items answers.new.items result links.new.items }
     ensures count { vec_len links.new ≡ vec_len links.old }
     ensures filled { vec_len answers.new ≡ vec_len answers.old + length nodes.now }
@@ -88,9 +88,9 @@ pub(crate) fn tell_each<I: ByteIn + Drop, O: ByteOut + Drop>(
     };
     let sent = send_to(alloc, links, *node, request);
     let later = tell_each(
-        alloc, links, setup, course, command, request, others, answers,
+        alloc, links, setup, history, command, request, others, answers,
     );
-    let Outcome { given, said } = finish_at(alloc, links, setup, course, *node, command, sent);
+    let Outcome { given, said } = finish_at(alloc, links, setup, history, *node, command, sent);
     let own = telling_of(&given, said);
     put(answers, given);
     Some(told_of(own, later))

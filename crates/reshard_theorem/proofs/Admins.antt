@@ -16,8 +16,7 @@ use Rattle.slot_marks.specs.Verdicts.{first_slot}
 use Rattle.cluster_world.specs.declared.event.Event.{Event}
 use Rattle.cluster_world.specs.declared.event.Event.TheVariants.{Admin}
 use Rattle.cluster_admin.specs.declared.admin.AdminCommand.{AdminCommand}
-use Rattle.cluster_admin.specs.declared.admin.AdminCommand.TheVariants.{Importing, Migrating, SetNode, Stable, KeysIn}
-use Rattle.cluster_admin.specs.declared.admin.AdminCommand.TheVariants.{Migrate}
+use Rattle.cluster_admin.specs.declared.admin.AdminCommand.TheVariants as command
 use Rattle.cluster_admin.specs.declared.admin.AdminReply.{AdminReply}
 use Rattle.byte_texts.specs.Outcomes.{first_refusal}
 use Rattle.slot_marks.specs.declared.fault.SlotFault.{SlotFault}
@@ -41,7 +40,7 @@ use Rattle.cluster_world.specs.Servers.{ListsSlot, MayReply}
 use Rattle.reshard_theorem.proofs.Counting.{none_by_listing, listed_slot}
 use Rattle.reshard_theorem.proofs.Servers.{IsGranted, granted_reply}
 use Rattle.reshard_theorem.proofs.Split.{Contents, Splits, move_splits, not_busy}
-use Rattle.reshard_theorem.proofs.Phases.{Phase, Closed, Opening, Moving, Drained, Rest, Marks, Emptied, CountOk, Fresh, Data, marks_same, emptied_same, data_same, both_false}
+use Rattle.reshard_theorem.proofs.Phases.{Phase, Closed, Importing, Migrating, Drained, Rest, Marks, Emptied, CountOk, Fresh, Data, marks_same, emptied_same, data_same, both_false}
 use Rattle.cluster_world.proofs.Viewing.{node_same, node_other, field_kept, length_kept}
 use Rattle.reshard_theorem.proofs.Base.{Base, Inv, MarksIn, ListedOk}
 use Rattle.reshard_theorem.proofs.Turns.{Opened, opened, Sent, sent, Draining, draining, Told, told, Stabled, stabled}
@@ -150,12 +149,12 @@ within w n m size h = ap not (lt-ltb m (length w.nodes) (subst (λ k. m < k) (sy
 
 -- the slot's counts after a command: a mark that is set counts
 abbrev pub NewCount : List ℕ → List ℕ → (ℕ → ℕ) → ℕ → AdminCommand → Type 0
-NewCount ks ks' h r (Importing s m) = ks' ≡ ks
-NewCount ks ks' h r (Migrating s m) = ks' ≡ ks ++ h r ∷ []
-NewCount ks ks' h r (SetNode s m) = ks' ≡ ks
-NewCount ks ks' h r (Stable s) = ks' ≡ ks
-NewCount ks ks' h r (KeysIn s m) = ks' ≡ ks
-NewCount ks ks' h r (Migrate qs m) = ks' ≡ ks
+NewCount ks ks' h r (command.Importing s m) = ks' ≡ ks
+NewCount ks ks' h r (command.Migrating s m) = ks' ≡ ks ++ h r ∷ []
+NewCount ks ks' h r (command.SetNode s m) = ks' ≡ ks
+NewCount ks ks' h r (command.Stable s) = ks' ≡ ks
+NewCount ks ks' h r (command.KeysIn s m) = ks' ≡ ks
+NewCount ks ks' h r (command.Migrate qs m) = ks' ≡ ks
 
 -- one drain more is after, or not
 abbrev pub passed_on : Bool → ℕ → ℕ
@@ -168,9 +167,9 @@ earlier port past r c reply ks m (inl u) = absurd u
 earlier port past r c reply ks m (inr u) = u.1
 
 -- since an accepted IMPORTING nothing was asked
-import_asks : (port : ℕ) (past : List Event) (t s o : ℕ) (reply : AdminReply) (ks : List Key) (m : ℕ) → reply ≡ answers.Ok → first_slot ks ≡ s → WasAsked port (Admin t (Importing s o) reply ∷ past) ks m → m ≢ t
+import_asks : (port : ℕ) (past : List Event) (t s o : ℕ) (reply : AdminReply) (ks : List Key) (m : ℕ) → reply ≡ answers.Ok → first_slot ks ≡ s → WasAsked port (Admin t (command.Importing s o) reply ∷ past) ks m → m ≢ t
 import_asks port past t s o told ks m e slot (inl u) = absurd u
-import_asks port past t s o told ks m e slot (inr u) = let none : t ≡ m → s ≡ first_slot ks → ⊥ = (subst (λ x. IsNoImport (first_slot ks) m (Admin t (Importing s o) x)) e u.0) in λ f. none (sym f) (sym slot)
+import_asks port past t s o told ks m e slot (inr u) = let none : t ≡ m → s ≡ first_slot ks → ⊥ = (subst (λ x. IsNoImport (first_slot ks) m (Admin t (command.Importing s o) x)) e u.0) in λ f. none (sym f) (sym slot)
 
 at_end : (ks : List ℕ) (v : ℕ) → slice_index (ks ++ v ∷ []) (length ks) ≡ v
 at_end ks v = get_or-append_seam ks v [] 0
@@ -192,17 +191,17 @@ module _ (n : ℕ) (goal : ℕ → ℕ) (w : World) (rest : List PlanCommand) wh
       → (m : Marks n (goal (slot_named o)) (slot_named o) (λ m. owner w m (slot_named o)) (λ m. migrating w m (slot_named o)) (λ m. importing w m (slot_named o)) (o ∷ part rest (slot_named o))) × (m.phase ≡ (b.marks (slot_named o)).phase)
   slot_at o listed b = marks_part n _ _ _ _ _ _ _ (part_here o rest) (b.marks (slot_named o))
 
-  pub import_step : (s o t : ℕ) (b : Base n goal w (planned.Importing s o t ∷ rest) None) → Calm n goal w (planned.Importing s o t ∷ rest) rest None None b t (Importing s o) s false
+  pub import_step : (s o t : ℕ) (b : Base n goal w (planned.Importing s o t ∷ rest) None) → Calm n goal w (planned.Importing s o t ∷ rest) rest None None b t (command.Importing s o) s false
   unfolding admin_fault setting_fault effect node_if_accepted reply_if_accepted
   import_step s o t b = record {
     no_fault = no_slot_fault (three_false _ _ _ _ _ _ (ne_eqb (owner w t s) t (λ e. turn.apart (sym (turn.owned t turn.target_below) ∙ e))) (within w n o b.size turn.source_below) (ne_eqb o t turn.apart));
     before = Closed o;
-    later = Opening o t;
+    later = Importing o t;
     was = sym ok.1 ∙ turn.was;
     exact = λ ks ks' i h e g f. tt;
     counted = λ ks ks' i h e g. ap length e ∙ g;
     same = held_same;
-    next = one_slot n goal w (planned.Importing s o t ∷ rest) None s next rest None (Opening o t) b (length_kept w t x) (λ m. field_kept (λ y. length y.owners) w t x inside refl m)
+    next = one_slot n goal w (planned.Importing s o t ∷ rest) None s next rest None (Importing o t) b (length_kept w t x) (λ m. field_kept (λ y. length y.owners) w t x inside refl m)
         (λ u m e. field_kept (λ y. get_or y.owners u 0) w t x inside refl m)
         (λ u m e. field_kept (λ y. map.get y.migrating u) w t x inside refl m)
         (λ u m e. field_kept (λ y. map.get y.importing u) w t x inside (mark_other _ s o u e) m)
@@ -214,7 +213,7 @@ module _ (n : ℕ) (goal : ℕ → ℕ) (w : World) (rest : List PlanCommand) wh
   }
     where
       x : Node
-      x = node_if_accepted t (node_at w t) (Importing s o)
+      x = node_if_accepted t (node_at w t) (command.Importing s o)
 
       next : World
       next = change_node w t x
@@ -231,17 +230,17 @@ module _ (n : ℕ) (goal : ℕ → ℕ) (w : World) (rest : List PlanCommand) wh
       held_same : (m : ℕ) (k : Key) → held next m k ≡ held w m k
       held_same m k = field_kept (λ y. map.get y.held k) w t x inside refl m
 
-  pub send_step : (s t at : ℕ) (b : Base n goal w (planned.Migrating s t at ∷ rest) None) → Calm n goal w (planned.Migrating s t at ∷ rest) rest None None b at (Migrating s t) s false
+  pub send_step : (s t at : ℕ) (b : Base n goal w (planned.Migrating s t at ∷ rest) None) → Calm n goal w (planned.Migrating s t at ∷ rest) rest None None b at (command.Migrating s t) s false
   unfolding admin_fault setting_fault effect node_if_accepted
   send_step s t at b = record {
     no_fault = no_slot_fault (three_false _ _ _ _ _ _ (ap not (eq-eqb (owner w at s) at owned)) (within w n t b.size turn.1.target_below) (ne_eqb t at (λ e. turn.1.apart (sym turn.1.at_source ∙ sym e))));
-    before = Opening turn.0 t;
-    later = Moving turn.0 t;
+    before = Importing turn.0 t;
+    later = Migrating turn.0 t;
     was = sym ok.1 ∙ turn.1.was;
     exact = λ ks ks' i h e g f. fresh ks ks' i (h at) (h turn.0) e (ap h (sym turn.1.at_source)) g;
     counted = λ ks ks' i h e g. appended ks ks' i (h at) (h turn.0) e (ap h (sym turn.1.at_source)) g;
     same = held_same;
-    next = one_slot n goal w (planned.Migrating s t at ∷ rest) None s next rest None (Moving turn.0 t) b (length_kept w at x) (λ m. field_kept (λ y. length y.owners) w at x inside refl m)
+    next = one_slot n goal w (planned.Migrating s t at ∷ rest) None s next rest None (Migrating turn.0 t) b (length_kept w at x) (λ m. field_kept (λ y. length y.owners) w at x inside refl m)
         (λ u m e. field_kept (λ y. get_or y.owners u 0) w at x inside refl m)
         (λ u m e. field_kept (λ y. map.get y.migrating u) w at x inside (mark_other _ s t u e) m)
         (λ u m e. field_kept (λ y. map.get y.importing u) w at x inside refl m)
@@ -250,7 +249,7 @@ module _ (n : ℕ) (goal : ℕ → ℕ) (w : World) (rest : List PlanCommand) wh
         (λ m. field_changed (λ y. map.get y.migrating s) w at x (Some t) inside (mark_here _ s t) m ∙ ap (λ a. cond (eqb m a) (Some t) (migrating w m s)) turn.1.at_source)
         (λ m. field_kept (λ y. map.get y.importing s) w at x inside refl m))
         tt tt;
-    lies = λ past told e d. record { place = λ m k i u. d.place m k i (or_parts (eqb m turn.0) (eqb m t) u).0; asked = λ ks m v one slot p. absurd (d.asked ks m (earlier w.base_port past at (Migrating s t) told ks m v) one slot p) };
+    lies = λ past told e d. record { place = λ m k i u. d.place m k i (or_parts (eqb m turn.0) (eqb m t) u).0; asked = λ ks m v one slot p. absurd (d.asked ks m (earlier w.base_port past at (command.Migrating s t) told ks m v) one slot p) };
   }
     where
       fresh : (ks ks' : List ℕ) (i v x : ℕ) → ks' ≡ ks ++ v ∷ [] → x ≡ v → length ks ≡ i → x ≡ slice_index ks' i
@@ -263,7 +262,7 @@ module _ (n : ℕ) (goal : ℕ → ℕ) (w : World) (rest : List PlanCommand) wh
           (subst (λ l. length l ≡ suc i) (sym e) (omega arith), subst (λ l. x ≤ slice_index l i) (sym e) (subst (λ j. x ≤ slice_index (ks ++ v ∷ []) j) g (omega arith)))
 
       x : Node
-      x = node_if_accepted at (node_at w at) (Migrating s t)
+      x = node_if_accepted at (node_at w at) (command.Migrating s t)
 
       next : World
       next = change_node w at x
@@ -290,11 +289,11 @@ module _ (n : ℕ) (goal : ℕ → ℕ) (w : World) (rest : List PlanCommand) wh
       let ok : (m : Marks n (goal s) s (λ m. owner w m s) (λ m. migrating w m s) (λ m. importing w m s) (planned.Drain s o t b ∷ part rest s)) × (m.phase ≡ (base.marks s).phase) = slot_at (planned.Drain s o t b) listed base in
       (ok.0, ok.1, draining n (goal s) s _ _ _ _ _ _ (part rest s) o t b ok.0)
 
-  pub list_none_step : (s o t b : ℕ) (base : Base n goal w (planned.Drain s o t b ∷ rest) None) → ListsSlot (node_at w o).held s b [] → Calm n goal w (planned.Drain s o t b ∷ rest) rest None None base o (KeysIn s b) s true
+  pub list_none_step : (s o t b : ℕ) (base : Base n goal w (planned.Drain s o t b ∷ rest) None) → ListsSlot (node_at w o).held s b [] → Calm n goal w (planned.Drain s o t b ∷ rest) rest None None base o (command.KeysIn s b) s true
   unfolding admin_fault setting_fault effect
   list_none_step s o t b base none = record {
     no_fault = refl;
-    before = Moving o t;
+    before = Migrating o t;
     later = Drained o t;
     was = sym turn.1 ∙ turn.2.was;
     exact = λ ks ks' i h e g f. tt;
@@ -324,7 +323,7 @@ module _ (n : ℕ) (goal : ℕ → ℕ) (w : World) (rest : List PlanCommand) wh
   list_none_later s o t b base none = refl
 
   pub list_some_step : (s o t b : ℕ) (k : Key) (ks : List Key) (base : Base n goal w (planned.Drain s o t b ∷ rest) None) → ListsSlot (node_at w o).held s b (k ∷ ks)
-      → Calm n goal w (planned.Drain s o t b ∷ rest) (planned.Drain s o t b ∷ rest) None (Some (k ∷ ks)) base o (KeysIn s b) s false
+      → Calm n goal w (planned.Drain s o t b ∷ rest) (planned.Drain s o t b ∷ rest) None (Some (k ∷ ks)) base o (command.KeysIn s b) s false
   unfolding admin_fault setting_fault effect
   list_some_step s o t b k ks base some = record {
     no_fault = refl;
@@ -335,7 +334,7 @@ module _ (n : ℕ) (goal : ℕ → ℕ) (w : World) (rest : List PlanCommand) wh
     counted = λ js js' i h e g. subst (λ a. CountOk a i h (base.marks s).phase) (sym e) g;
     same = λ m k. refl;
     next = (record { size = base.size; widths = base.widths; marks = base.marks; emptied = base.emptied; listing = (of_slot k (or_left (same_key k k) (is_named k ks) (same_itself k)), of_slot) }, λ t e. refl, refl);
-    lies = λ past told e d. record { place = d.place; asked = λ qs m v one slot. d.asked qs m (earlier w.base_port past o (KeysIn s b) told qs m v) one slot };
+    lies = λ past told e d. record { place = d.place; asked = λ qs m v one slot. d.asked qs m (earlier w.base_port past o (command.KeysIn s b) told qs m v) one slot };
   }
     where
       of_slot : (q : Key) → is_named q (k ∷ ks) ≡ true → slot_of q ≡ s
@@ -346,11 +345,11 @@ module _ (n : ℕ) (goal : ℕ → ℕ) (w : World) (rest : List PlanCommand) wh
   unfolding list_some_step
   list_some_phase s o t b k ks base some u = refl
 
-  pub stable_step : (s at : ℕ) (b : Base n goal w (planned.Stable s at ∷ rest) None) → Calm n goal w (planned.Stable s at ∷ rest) rest None None b at (Stable s) s false
+  pub stable_step : (s at : ℕ) (b : Base n goal w (planned.Stable s at ∷ rest) None) → Calm n goal w (planned.Stable s at ∷ rest) rest None None b at (command.Stable s) s false
   unfolding admin_fault setting_fault effect node_if_accepted
   stable_step s at b = record {
     no_fault = refl;
-    before = Opening turn.source at;
+    before = Importing turn.source at;
     later = Closed turn.source;
     was = sym ok.1 ∙ turn.was;
     exact = λ ks ks' i h e g f. tt;
@@ -369,7 +368,7 @@ module _ (n : ℕ) (goal : ℕ → ℕ) (w : World) (rest : List PlanCommand) wh
   }
     where
       x : Node
-      x = node_if_accepted at (node_at w at) (Stable s)
+      x = node_if_accepted at (node_at w at) (command.Stable s)
 
       next : World
       next = change_node w at x
@@ -386,7 +385,7 @@ module _ (n : ℕ) (goal : ℕ → ℕ) (w : World) (rest : List PlanCommand) wh
       held_same : (m : ℕ) (k : Key) → held next m k ≡ held w m k
       held_same m k = field_kept (λ y. map.get y.held k) w at x inside refl m
 
-  pub tell_step : (s t at : ℕ) (b : Base n goal w (planned.SetNode s t at ∷ rest) None) → Calm n goal w (planned.SetNode s t at ∷ rest) rest None None b at (SetNode s t) s false
+  pub tell_step : (s t at : ℕ) (b : Base n goal w (planned.SetNode s t at ∷ rest) None) → Calm n goal w (planned.SetNode s t at ∷ rest) rest None None b at (command.SetNode s t) s false
   unfolding admin_fault setting_fault effect node_if_accepted
   tell_step s t at b = record {
     no_fault = no_slot_fault (two_false _ _ _ _ (within w n t b.size turn.target_below)
@@ -410,7 +409,7 @@ module _ (n : ℕ) (goal : ℕ → ℕ) (w : World) (rest : List PlanCommand) wh
   }
     where
       x : Node
-      x = node_if_accepted at (node_at w at) (SetNode s t)
+      x = node_if_accepted at (node_at w at) (command.SetNode s t)
 
       next : World
       next = change_node w at x
@@ -483,14 +482,14 @@ four_false false false false false i j k l p q r s = refl
 
 -- a batch that moves
 pub record Batch (n : ℕ) (goal : ℕ → ℕ) (w : World) (rest : List PlanCommand) (s o t b : ℕ) (ks : List Key) (base : Base n goal w (planned.Drain s o t b ∷ rest) (Some ks)) : Type 0 where
-  pub was : (base.marks s).phase ≡ Moving o t
+  pub was : (base.marks s).phase ≡ Migrating o t
   pub apart : o ≢ t
-  pub no_fault : list_any (λ k. is_some (held w o k) && is_some (held w t k)) ks ≡ false → admin_fault w o (Migrate ks t) ≡ None
-  pub next : Next n goal w (effect w o (Migrate ks t)) (planned.Drain s o t b ∷ rest) (planned.Drain s o t b ∷ rest) (Some ks) None base s (Moving o t)
-  pub at_source : (q : Key) → held (effect w o (Migrate ks t)) o q ≡ cond (is_named q ks) None (held w o q)
-  pub at_target : (q : Key) → held (effect w o (Migrate ks t)) t q ≡ cond (is_named q ks && is_some (held w o q)) (held w o q) (held w t q)
-  pub elsewhere : (m : ℕ) (q : Key) → m ≢ o → m ≢ t → held (effect w o (Migrate ks t)) m q ≡ held w m q
-  pub others : (m : ℕ) (k : Key) → slot_of k ≢ s → held (effect w o (Migrate ks t)) m k ≡ held w m k
+  pub no_fault : list_any (λ k. is_some (held w o k) && is_some (held w t k)) ks ≡ false → admin_fault w o (command.Migrate ks t) ≡ None
+  pub next : Next n goal w (effect w o (command.Migrate ks t)) (planned.Drain s o t b ∷ rest) (planned.Drain s o t b ∷ rest) (Some ks) None base s (Migrating o t)
+  pub at_source : (q : Key) → held (effect w o (command.Migrate ks t)) o q ≡ cond (is_named q ks) None (held w o q)
+  pub at_target : (q : Key) → held (effect w o (command.Migrate ks t)) t q ≡ cond (is_named q ks && is_some (held w o q)) (held w o q) (held w t q)
+  pub elsewhere : (m : ℕ) (q : Key) → m ≢ o → m ≢ t → held (effect w o (command.Migrate ks t)) m q ≡ held w m q
+  pub others : (m : ℕ) (k : Key) → slot_of k ≢ s → held (effect w o (command.Migrate ks t)) m k ≡ held w m k
 
 module _ (n : ℕ) (goal : ℕ → ℕ) (w : World) (rest : List PlanCommand) where
   pub migrate_step : (s o t b : ℕ) (ks : List Key) (base : Base n goal w (planned.Drain s o t b ∷ rest) (Some ks)) → Batch n goal w rest s o t b ks base
@@ -504,7 +503,7 @@ module _ (n : ℕ) (goal : ℕ → ℕ) (w : World) (rest : List PlanCommand) wh
     at_target = at_target;
     elsewhere = elsewhere;
     others = λ m k e. others m k (false_from_ne_true (is_named k ks) (λ v. e (base.listing.1 k v)));
-    next = one_slot n goal w (planned.Drain s o t b ∷ rest) (Some ks) s next (planned.Drain s o t b ∷ rest) None (Moving o t) base
+    next = one_slot n goal w (planned.Drain s o t b ∷ rest) (Some ks) s next (planned.Drain s o t b ∷ rest) None (Migrating o t) base
         (length_kept w1 o y ∙ length_kept w t x) (λ m. kept (λ z. length z.owners) refl refl m)
         (λ u m e. kept (λ z. get_or z.owners u 0) refl refl m)
         (λ u m e. kept (λ z. map.get z.migrating u) refl refl m)
@@ -581,12 +580,12 @@ AdminGood n goal w past r c reply rest listed store = (admin_fault w r c ≡ Non
 
 pub effect_port : (w : World) (r : ℕ) (c : AdminCommand) → (effect w r c).base_port ≡ w.base_port
 unfolding effect
-effect_port w r (Importing s m) = refl
-effect_port w r (Migrating s m) = refl
-effect_port w r (SetNode s m) = refl
-effect_port w r (Stable s) = refl
-effect_port w r (KeysIn s b) = refl
-effect_port w r (Migrate ks m) = refl
+effect_port w r (command.Importing s m) = refl
+effect_port w r (command.Migrating s m) = refl
+effect_port w r (command.SetNode s m) = refl
+effect_port w r (command.Stable s) = refl
+effect_port w r (command.KeysIn s b) = refl
+effect_port w r (command.Migrate ks m) = refl
 
 module _ (n : ℕ) (goal : ℕ → ℕ) (w : World) (past : List Event) (plan rest : List PlanCommand) (listed listed' : Option (List Key)) (store : Store) (r : ℕ) (c : AdminCommand) (reply : AdminReply) (s : ℕ) (passes : Bool) where
   pub calm_good : (inv : Inv n goal w past plan listed store) → MayReply w r c reply → Calm n goal w plan rest listed listed' inv.base r c s passes → AdminGood n goal w past r c reply rest listed' store
@@ -607,34 +606,34 @@ module _ (n : ℕ) (goal : ℕ → ℕ) (w : World) (past : List Event) (plan re
   )
 
 pub batch_good : (n : ℕ) (goal : ℕ → ℕ) (w : World) (past : List Event) (rest : List PlanCommand) (store : Store) (reply : AdminReply) (s o t b : ℕ) (ks : List Key)
-    (inv : Inv n goal w past (planned.Drain s o t b ∷ rest) (Some ks) store) → Batch n goal w rest s o t b ks inv.base → AdminGood n goal w past o (Migrate ks t) reply (planned.Drain s o t b ∷ rest) None store
+    (inv : Inv n goal w past (planned.Drain s o t b ∷ rest) (Some ks) store) → Batch n goal w rest s o t b ks inv.base → AdminGood n goal w past o (command.Migrate ks t) reply (planned.Drain s o t b ∷ rest) None store
 unfolding effect
 batch_good n goal w past rest store reply s o t b ks inv batch = (
   batch.no_fault (not_busy (held w) (held next) (map.get store) o t ks batch.apart inv.split),
   record {
     base = batch.next.0;
     lies = λ u. elim (cases_eq u s) [
-      | inl e ↦ subst (λ v. Data w.base_port v (batch.next.0.marks v).phase (held next) (Admin o (Migrate ks t) reply ∷ past)) (sym e)
-          (subst (λ p. Data w.base_port s p (held next) (Admin o (Migrate ks t) reply ∷ past)) (sym batch.next.2) moved)
-      | inr e ↦ subst (λ p. Data w.base_port u p (held next) (Admin o (Migrate ks t) reply ∷ past)) (sym (batch.next.1 u e))
-          (data_same w.base_port u (inv.base.marks u).phase (held w) (held next) past (Admin o (Migrate ks t) reply ∷ past) (inv.lies u) (λ m k i. batch.others m k (λ v. e (sym i ∙ v))) (λ qs m v one slot. earlier w.base_port past o (Migrate ks t) reply qs m v))
+      | inl e ↦ subst (λ v. Data w.base_port v (batch.next.0.marks v).phase (held next) (Admin o (command.Migrate ks t) reply ∷ past)) (sym e)
+          (subst (λ p. Data w.base_port s p (held next) (Admin o (command.Migrate ks t) reply ∷ past)) (sym batch.next.2) moved)
+      | inr e ↦ subst (λ p. Data w.base_port u p (held next) (Admin o (command.Migrate ks t) reply ∷ past)) (sym (batch.next.1 u e))
+          (data_same w.base_port u (inv.base.marks u).phase (held w) (held next) past (Admin o (command.Migrate ks t) reply ∷ past) (inv.lies u) (λ m k i. batch.others m k (λ v. e (sym i ∙ v))) (λ qs m v one slot. earlier w.base_port past o (command.Migrate ks t) reply qs m v))
     ];
     split = move_splits (held w) (held next) (map.get store) o t ks batch.apart inv.split batch.at_source batch.at_target batch.elsewhere;
   },
 )
   where
     next : World
-    next = effect w o (Migrate ks t)
+    next = effect w o (command.Migrate ks t)
 
-    old : Data w.base_port s (Moving o t) (held w) past
+    old : Data w.base_port s (Migrating o t) (held w) past
     old = subst (λ p. Data w.base_port s p (held w) past) batch.was (inv.lies s)
 
     none_cond : (c : Bool) (v : Option Value) → v ≡ None → cond c None v ≡ None
     none_cond true v e = refl
     none_cond false v e = e
 
-    moved : Data w.base_port s (Moving o t) (held next) (Admin o (Migrate ks t) reply ∷ past)
+    moved : Data w.base_port s (Migrating o t) (held next) (Admin o (command.Migrate ks t) reply ∷ past)
     moved = record {
       place = λ m k i u. batch.elsewhere m k (eqb-false m o (or_parts (eqb m o) (eqb m t) u).0) (eqb-false m t (or_parts (eqb m o) (eqb m t) u).1) ∙ old.place m k i u;
-      asked = λ qs m v one slot p q i. batch.at_source q ∙ none_cond (is_named q ks) (held w o q) (old.asked qs m (earlier w.base_port past o (Migrate ks t) reply qs m v) one slot p q i);
+      asked = λ qs m v one slot p q i. batch.at_source q ∙ none_cond (is_named q ks) (held w o q) (old.asked qs m (earlier w.base_port past o (command.Migrate ks t) reply qs m v) one slot p q i);
     }

@@ -15,7 +15,7 @@ use Rattle.cluster_admin.specs.Phases.{AreTwo, AreOthers, IsPhase, HasPhase, Pha
 use Rattle.cluster_admin.specs.Phases as phase
 use Rattle.cluster_world.specs.Openness.{Open, IsOpenSlot, AskAllows}
 use Rattle.plan_semantics.specs.Plans.{part, Legal, IsPart, Closes, last_told, first_owner, final_owner, among, IsDistinct, AreEnds, Leg, legs_of, AreLegs, tell}
-use Rattle.reshard_theorem.proofs.Phases.{Phase, Closed, Opening, Moving, Drained, Half, Telling, own_in, goes_in, comes_in, may_hold, AskFine, Rest, Marks, Emptied, Data, More, leg_end}
+use Rattle.reshard_theorem.proofs.Phases.{Phase, Closed, Importing, Migrating, Drained, TargetTold, SourceTold, own_in, goes_in, comes_in, may_hold, AskFine, Rest, Marks, Emptied, Data, More, leg_end}
 use Rattle.reshard_theorem.proofs.Base.{Base, Inv, MarksIn}
 use Rattle.reshard_theorem.proofs.Whole.{inner, part_end, marks_past}
 use Rattle.reshard_theorem.specs.Starts.{Reshard, Starts}
@@ -105,24 +105,24 @@ module _ (w : World) (before : List Event) (s goal : ℕ) (rest : List PlanComma
       where
         left : Rest (length w.nodes) goal s (Closed o) rest
         left = record { owner_below = slot.has.fine; below = i.below; goes_on = subst (More (length w.nodes) goal s o) (sym (part_is (phase.Closed o) i [] o i.closes.0 i.closes.1)) (more_of (phase.Closed o) i g o i.closes.1) }
-    begin (phase.Importing o t) slot i g = make (phase.Importing o t) (Opening o t) slot (left i.closes) (λ m. refl) (λ m. refl) (λ m. refl) (λ m. refl) (λ ks m a. a) tt
+    begin (phase.Importing o t) slot i g = make (phase.Importing o t) (Importing o t) slot (left i.closes) (λ m. refl) (λ m. refl) (λ m. refl) (λ m. refl) (λ ks m a. a) tt
       where
-        left : Closes version (length w.nodes) s (phase.Importing o t) i.closing i.owner → Rest (length w.nodes) goal s (Opening o t) rest
+        left : Closes version (length w.nodes) s (phase.Importing o t) i.closing i.owner → Rest (length w.nodes) goal s (Importing o t) rest
         left (inl c) = let e : rest ≡ planned.Stable s t ∷ legs_of s o i.legs = part_is (phase.Importing o t) i (planned.Stable s t ∷ []) o c.1 c.2 in
             inr (record { below = i.below (cons _ _ rest e); two = slot.has.fine; more = legs_of s o i.legs; goes_on = more_of (phase.Importing o t) i g o c.2; is = e })
         left (inr c) = let e : rest ≡ planned.Migrating s t o ∷ planned.Drain s o t c.0 ∷ planned.SetNode s t t ∷ planned.SetNode s t o ∷ (tell s t c.1 ++ legs_of s t i.legs) = part_is (phase.Importing o t) i _ t c.5 c.4 in
             inl (record { below = i.below (cons _ _ rest e); batch = c.0; others = c.1; some = c.2; ends = c.3; more = legs_of s t i.legs; goes_on = more_of (phase.Importing o t) i g t c.4; is = e })
-    begin (phase.Migrating o t) slot i g = make (phase.Migrating o t) (Moving o t) slot (left i.closes) (λ m. refl) (λ m. refl) (λ m. refl) (λ m. refl) (λ ks m a. a) tt
+    begin (phase.Migrating o t) slot i g = make (phase.Migrating o t) (Migrating o t) slot (left i.closes) (λ m. refl) (λ m. refl) (λ m. refl) (λ m. refl) (λ ks m a. a) tt
       where
-        left : Closes version (length w.nodes) s (phase.Migrating o t) i.closing i.owner → Rest (length w.nodes) goal s (Moving o t) rest
+        left : Closes version (length w.nodes) s (phase.Migrating o t) i.closing i.owner → Rest (length w.nodes) goal s (Migrating o t) rest
         left c = let e : rest ≡ planned.Drain s o t c.0 ∷ planned.SetNode s t t ∷ planned.SetNode s t o ∷ (tell s t c.1 ++ legs_of s t i.legs) = part_is (phase.Migrating o t) i _ t c.5 c.4 in
             record { below = i.below (cons _ _ rest e); batch = c.0; others = c.1; some = c.2; ends = c.3; more = legs_of s t i.legs; goes_on = more_of (phase.Migrating o t) i g t c.4; is = e }
-    begin (phase.TargetTold o t) slot i g = make (phase.TargetTold o t) (Half o t) slot (left i.closes) (λ m. refl) (λ m. refl) (λ m. refl) (λ m. refl) (λ ks m a. tt) (λ k j. slot.place o k j (ne_eqb o t slot.has.fine.apart))
+    begin (phase.TargetTold o t) slot i g = make (phase.TargetTold o t) (TargetTold o t) slot (left i.closes) (λ m. refl) (λ m. refl) (λ m. refl) (λ m. refl) (λ ks m a. tt) (λ k j. slot.place o k j (ne_eqb o t slot.has.fine.apart))
       where
-        left : Closes version (length w.nodes) s (phase.TargetTold o t) i.closing i.owner → Rest (length w.nodes) goal s (Half o t) rest
+        left : Closes version (length w.nodes) s (phase.TargetTold o t) i.closing i.owner → Rest (length w.nodes) goal s (TargetTold o t) rest
         left c = let e : rest ≡ planned.SetNode s t o ∷ (tell s t c.0 ++ legs_of s t i.legs) = part_is (phase.TargetTold o t) i _ t c.3 c.2 in
             record { below = i.below (cons _ _ rest e); others = c.0; ends = c.1; more = legs_of s t i.legs; goes_on = more_of (phase.TargetTold o t) i g t c.2; is = e }
-    begin (phase.SourceTold o t told) slot i g = make (phase.SourceTold o t told) (Telling o t others) slot left (λ m. ap (λ b. cond b o t) (same m)) (λ m. refl) (λ m. refl) (λ m. refl) (λ ks m a. tt) tt
+    begin (phase.SourceTold o t told) slot i g = make (phase.SourceTold o t told) (SourceTold o t others) slot left (λ m. ap (λ b. cond b o t) (same m)) (λ m. refl) (λ m. refl) (λ m. refl) (λ ks m a. tt) tt
       where
         others : List ℕ
         others = i.closes.0
@@ -143,7 +143,7 @@ module _ (w : World) (before : List Event) (s goal : ℕ) (rest : List PlanComma
         tells [] more h f = h refl
         tells (x ∷ ns) more h f = cc
 
-        left : Rest (length w.nodes) goal s (Telling o t others) rest
+        left : Rest (length w.nodes) goal s (SourceTold o t others) rest
         left = record {
           below = i.below (λ f. tells others (legs_of s t i.legs) some (sym e ∙ f));
           two = fine.0;

@@ -20,7 +20,7 @@ use Rattle.plan_language.specs.declared.plan_command.PlanCommand.{PlanCommand}
 use Rattle.plan_semantics.specs.Plans.{part}
 use Rattle.reshard_theorem.proofs.Split.{Contents}
 use Rattle.reshard_theorem.proofs.Verdicts.{ServedBy, served_by}
-use Rattle.reshard_theorem.proofs.Phases.{Phase, Closed, Opening, Moving, Drained, Half, Telling, goes_in, comes_in, Rest, Emptied, named_slot, marks_same, emptied_same, marked}
+use Rattle.reshard_theorem.proofs.Phases.{Phase, Closed, Importing, Migrating, Drained, TargetTold, SourceTold, goes_in, comes_in, Rest, Emptied, named_slot, marks_same, emptied_same, marked}
 use Rattle.reshard_theorem.proofs.Base.{Base, MarksIn, Stays}
 use Rattle.reshard_theorem.proofs.Served.{served_world, served_is, served_length, owner_kept, migrating_kept, importing_kept, width_kept, served_elsewhere, served_unnamed}
 
@@ -47,8 +47,8 @@ emptied_served : (s : ℕ) (phase : Phase) (has has' : Contents) (x : ℕ) (ks :
     → ((m : ℕ) (q : Key) → m ≢ x → has' m q ≡ has m q) → ((m : ℕ) (q : Key) → is_named q ks ≡ false → has' m q ≡ has m q)
     → Emptied s phase has → Emptied s phase has'
 emptied_served s (Closed o) has has' x ks slot all n goal rest left elsewhere unnamed h = tt
-emptied_served s (Opening o t) has has' x ks slot all n goal rest left elsewhere unnamed h = tt
-emptied_served s (Moving o t) has has' x ks slot all n goal rest left elsewhere unnamed h = tt
+emptied_served s (Importing o t) has has' x ks slot all n goal rest left elsewhere unnamed h = tt
+emptied_served s (Migrating o t) has has' x ks slot all n goal rest left elsewhere unnamed h = tt
 emptied_served s (Drained o t) has has' x ks slot all n goal rest left elsewhere unnamed h = λ k i. elim (cases_eq o x) [
   | inl u ↦ elim (cases_Bool (is_named k ks)) [
     | inl v ↦ absurd (true≢false (sym (all (cond-false _ _ _ (ne_eqb x t (λ y. left.ends.apart (u ∙ y)))) (marked x o t (sym u)) k v) ∙ ap is_some (ap (λ y. has y k) (sym u) ∙ h k i)))
@@ -56,14 +56,14 @@ emptied_served s (Drained o t) has has' x ks slot all n goal rest left elsewhere
   ]
   | inr u ↦ elsewhere o k u ∙ h k i
 ]
-emptied_served s (Half o t) has has' x ks slot all n goal rest left elsewhere unnamed h = λ k i. elim (cases_eq o x) [
+emptied_served s (TargetTold o t) has has' x ks slot all n goal rest left elsewhere unnamed h = λ k i. elim (cases_eq o x) [
   | inl u ↦ elim (cases_Bool (is_named k ks)) [
     | inl v ↦ absurd (true≢false (sym (all refl (marked x o t (sym u)) k v) ∙ ap is_some (ap (λ y. has y k) (sym u) ∙ h k i)))
     | inr v ↦ unnamed o k v ∙ h k i
   ]
   | inr u ↦ elsewhere o k u ∙ h k i
 ]
-emptied_served s (Telling o t left) has has' x ks slot all n goal rest l elsewhere unnamed h = tt
+emptied_served s (SourceTold o t left) has has' x ks slot all n goal rest l elsewhere unnamed h = tt
 
 -- a command that is served keeps owners, marks and emptied sources, honest or not
 module _ (n : ℕ) (goal : ℕ → ℕ) (w : World) (plan : List PlanCommand) (listed : Option (List Key)) (x : ℕ) (asking : Bool) (c : Command) where

@@ -8,8 +8,7 @@ use Rattle.cluster_admin.specs.declared.admin.AdminReply.{AdminReply}
 use Rattle.cluster_admin.specs.declared.admin.AdminReply.TheVariants as answers
 use Rattle.cluster_world.specs.Worlds.{World, node_at}
 use Rattle.cluster_admin.specs.declared.admin.AdminCommand.{AdminCommand}
-use Rattle.cluster_admin.specs.declared.admin.AdminCommand.TheVariants.{Importing, Migrating, SetNode, Stable, KeysIn}
-use Rattle.cluster_admin.specs.declared.admin.AdminCommand.TheVariants.{Migrate}
+use Rattle.cluster_admin.specs.declared.admin.AdminCommand.TheVariants as command
 use Rattle.cluster_world.specs.Commanding.{effect}
 use Rattle.cluster_world.specs.Steps.{after}
 use Rattle.cluster_world.specs.declared.event.Event.{Event}
@@ -21,7 +20,7 @@ use Rattle.cluster_world.specs.AdminCalls.{calls}
 use Rattle.reshard_theorem.specs.QuietRuns.{NoClients}
 use Rattle.plan_semantics.specs.Costs.{rounds, Counts, one_more, cost, none_passed}
 use Rattle.reshard_theorem.specs.Counts.{counts_after, counts}
-use Rattle.reshard_theorem.proofs.Phases.{Phase, Closed, Opening, Moving, Drained, Half, Telling, CountOk, Fresh}
+use Rattle.reshard_theorem.proofs.Phases.{Phase, Closed, Importing, Migrating, Drained, TargetTold, SourceTold, CountOk, Fresh}
 use Rattle.reshard_theorem.proofs.Base.{Base, Inv}
 use Rattle.reshard_theorem.proofs.Admins.{Calm, Batch, NewCount, AdminGood, drain_turn, import_step, send_step, list_none_step, list_none_later, list_some_step, list_some_phase, migrate_step, tell_step, stable_step, passed_on}
 use Rattle.reshard_theorem.proofs.Whole.{after_admin, spelled}
@@ -41,28 +40,28 @@ drains (planned.Drain s o u b ∷ rest) t = eqb s t
 
 count_over : (ks : List ℕ) (i : ℕ) (h h' : ℕ → ℕ) (p : Phase) → ((o : ℕ) → h' o ≡ h o) → CountOk ks i h p → CountOk ks i h' p
 count_over ks i h h' (Closed o) same g = g
-count_over ks i h h' (Opening o t) same g = g
-count_over ks i h h' (Moving o t) same g = (g.0, subst (λ x. x ≤ slice_index ks i) (sym (same o)) g.1)
+count_over ks i h h' (Importing o t) same g = g
+count_over ks i h h' (Migrating o t) same g = (g.0, subst (λ x. x ≤ slice_index ks i) (sym (same o)) g.1)
 count_over ks i h h' (Drained o t) same g = g
-count_over ks i h h' (Half o t) same g = g
-count_over ks i h h' (Telling o t left) same g = g
+count_over ks i h h' (TargetTold o t) same g = g
+count_over ks i h h' (SourceTold o t left) same g = g
 
 fresh_over : (ks : List ℕ) (i : ℕ) (h h' : ℕ → ℕ) (p : Phase) → ((o : ℕ) → h' o ≡ h o) → Fresh ks i h p → Fresh ks i h' p
 fresh_over ks i h h' (Closed o) same g = g
-fresh_over ks i h h' (Opening o t) same g = g
-fresh_over ks i h h' (Moving o t) same g = same o ∙ g
+fresh_over ks i h h' (Importing o t) same g = g
+fresh_over ks i h h' (Migrating o t) same g = same o ∙ g
 fresh_over ks i h h' (Drained o t) same g = g
-fresh_over ks i h h' (Half o t) same g = g
-fresh_over ks i h h' (Telling o t left) same g = g
+fresh_over ks i h h' (TargetTold o t) same g = g
+fresh_over ks i h h' (SourceTold o t left) same g = g
 
 -- no more drains are after than counts are there
 pub len_ok : (ks : List ℕ) (i : ℕ) (h : ℕ → ℕ) (p : Phase) → CountOk ks i h p → i ≤ length ks
 len_ok ks i h (Closed o) g = omega (arith, g)
-len_ok ks i h (Opening o t) g = omega (arith, g)
-len_ok ks i h (Moving o t) g = let e = g.0 in omega (arith, e)
+len_ok ks i h (Importing o t) g = omega (arith, g)
+len_ok ks i h (Migrating o t) g = let e = g.0 in omega (arith, e)
 len_ok ks i h (Drained o t) g = omega (arith, g)
-len_ok ks i h (Half o t) g = omega (arith, g)
-len_ok ks i h (Telling o t left) g = omega (arith, g)
+len_ok ks i h (TargetTold o t) g = omega (arith, g)
+len_ok ks i h (SourceTold o t left) g = omega (arith, g)
 
 -- the same counts of drains that are after
 abbrev pub Agrees : (ℕ → ℕ) → Counts → Counts → Type 0
@@ -156,23 +155,23 @@ module _ (n : ℕ) (goal : ℕ → ℕ) (whole : List PlanCommand) where
       omega (arith, owed))
 
   send_exact : (κ : Counts) (w : World) (plan : List PlanCommand) (spent s m at : ℕ) → Exactly κ w (planned.Migrating s m at ∷ plan) None spent
-      → Exactly (counts_after κ w (Admin at (Migrating s m) answers.Ok)) (effect w at (Migrating s m)) plan None (1 + spent)
+      → Exactly (counts_after κ w (Admin at (command.Migrating s m) answers.Ok)) (effect w at (command.Migrating s m)) plan None (1 + spent)
   send_exact κ w plan spent s m at e =
-      setslot_exact κ (counts_after κ w (Admin at (Migrating s m) answers.Ok)) w plan spent at s (planned.Migrating s m at) (Migrating s m) e (λ p x. refl) refl (λ t. refl) (send_step n goal w plan s m at e.base)
+      setslot_exact κ (counts_after κ w (Admin at (command.Migrating s m) answers.Ok)) w plan spent at s (planned.Migrating s m at) (command.Migrating s m) e (λ p x. refl) refl (λ t. refl) (send_step n goal w plan s m at e.base)
       (cond-true _ _ _ (eq-eqb s s refl)) (λ t f. cond-false _ _ _ (ne_eqb t s f)) (λ t i h. agreed (eqb t s) t i (len_ok (κ t) (e.passed t) (count w t) (e.base.marks t).phase (e.slots t)) h)
     where
       agreed : (b : Bool) (t i : ℕ) → e.passed t ≤ length (κ t) → i < e.passed t → slice_index (κ t) i ≡ slice_index (cond b (κ t ++ count w s at ∷ []) (κ t)) i
       agreed true t i le h = sym (get_or-append (κ t) (count w s at ∷ []) 0 i (omega arith))
       agreed false t i le h = refl
 
-  none_exact : (κ : Counts) (w : World) (plan : List PlanCommand) (spent s o t b : ℕ) → Exactly κ w (planned.Drain s o t b ∷ plan) None spent → ListsSlot (node_at w o).held s b [] → Exactly κ (effect w o (KeysIn s b)) plan None (1 + spent)
+  none_exact : (κ : Counts) (w : World) (plan : List PlanCommand) (spent s o t b : ℕ) → Exactly κ w (planned.Drain s o t b ∷ plan) None spent → ListsSlot (node_at w o).held s b [] → Exactly κ (effect w o (command.KeysIn s b)) plan None (1 + spent)
   none_exact κ w plan spent s o t b e none =
       let calm = list_none_step n goal w plan s o t b e.base none in
       let turn = drain_turn n goal w plan s o t b None e.base w in
       let p' : ℕ → ℕ = one_more e.passed s in
-      done κ κ w (effect w o (KeysIn s b)) (planned.Drain s o t b) plan spent p' calm.next.0
-      (calm_slots κ κ w (planned.Drain s o t b ∷ plan) plan spent o s (KeysIn s b) true e calm refl (λ u f. refl) p' (one_here e.passed s) (λ u f. one_other e.passed s u f))
-      (calm_fresh κ κ w (planned.Drain s o t b ∷ plan) plan spent o s (KeysIn s b) true e calm refl (λ u f. refl) p' (one_here e.passed s) (λ u f. one_other e.passed s u f)
+      done κ κ w (effect w o (command.KeysIn s b)) (planned.Drain s o t b) plan spent p' calm.next.0
+      (calm_slots κ κ w (planned.Drain s o t b ∷ plan) plan spent o s (command.KeysIn s b) true e calm refl (λ u f. refl) p' (one_here e.passed s) (λ u f. one_other e.passed s u f))
+      (calm_fresh κ κ w (planned.Drain s o t b ∷ plan) plan spent o s (command.KeysIn s b) true e calm refl (λ u f. refl) p' (one_here e.passed s) (λ u f. one_other e.passed s u f)
       (subst (λ q. Fresh (κ s) (suc (e.passed s)) (count w s) q) (sym (list_none_later n goal w plan s o t b e.base none)) tt) (λ u f. ne_eqb s u (λ g. f (sym g))))
       (λ x. e.behind x + (2 * rounds b (slice_index (x s) (e.passed s)) + 1))
       (λ x. let a : cost none_passed x whole ≡ e.behind x + ((2 * rounds b (slice_index (x s) (e.passed s)) + 1) + cost p' x plan) = e.splits x in omega arith)
@@ -195,7 +194,7 @@ module _ (n : ℕ) (goal : ℕ → ℕ) (whole : List PlanCommand) where
       empty some = let z : rounds b 0 < 1 = (div-lt_iff_lt-mul some).1 (omega arith) in omega arith
 
   some_exact : (κ : Counts) (w : World) (plan : List PlanCommand) (spent s o t b : ℕ) (k : Key) (ks : List Key) → Exactly κ w (planned.Drain s o t b ∷ plan) None spent → ListsSlot (node_at w o).held s b (k ∷ ks)
-      → Exactly κ (effect w o (KeysIn s b)) (planned.Drain s o t b ∷ plan) (Some (k ∷ ks)) (1 + spent)
+      → Exactly κ (effect w o (command.KeysIn s b)) (planned.Drain s o t b ∷ plan) (Some (k ∷ ks)) (1 + spent)
   unfolding effect
   some_exact κ w plan spent s o t b k ks e some = record {
     base = calm.next.0;
@@ -208,7 +207,7 @@ module _ (n : ℕ) (goal : ℕ → ℕ) (whole : List PlanCommand) where
     paid = (let p = e.paid in pays left step p);
   }
     where
-      calm : Calm n goal w (planned.Drain s o t b ∷ plan) (planned.Drain s o t b ∷ plan) None (Some (k ∷ ks)) e.base o (KeysIn s b) s false
+      calm : Calm n goal w (planned.Drain s o t b ∷ plan) (planned.Drain s o t b ∷ plan) None (Some (k ∷ ks)) e.base o (command.KeysIn s b) s false
       calm = list_some_step n goal w plan s o t b k ks e.base some
 
       phase : (u : ℕ) → (calm.next.0.marks u).phase ≡ (e.base.marks u).phase
@@ -228,7 +227,7 @@ module _ (n : ℕ) (goal : ℕ → ℕ) (whole : List PlanCommand) where
           → 1 + spent + ((2 * rounds b (length (left_of (node_at w o).held s (k ∷ ks))) + 2) + cost (one_more e.passed s) κ plan) ≡ e.behind κ + cost e.passed κ (planned.Drain s o t b ∷ plan)
       pays l r p = subst (λ x. 1 + spent + ((2 * rounds b x + 2) + cost (one_more e.passed s) κ plan) ≡ e.behind κ + cost e.passed κ (planned.Drain s o t b ∷ plan)) (sym l) (let q = r in let i = p in omega arith)
 
-  batch_exact : (κ : Counts) (w : World) (plan : List PlanCommand) (spent s o t b : ℕ) (ks : List Key) → Exactly κ w (planned.Drain s o t b ∷ plan) (Some ks) spent → Exactly κ (effect w o (Migrate ks t)) (planned.Drain s o t b ∷ plan) None (1 + spent)
+  batch_exact : (κ : Counts) (w : World) (plan : List PlanCommand) (spent s o t b : ℕ) (ks : List Key) → Exactly κ w (planned.Drain s o t b ∷ plan) (Some ks) spent → Exactly κ (effect w o (command.Migrate ks t)) (planned.Drain s o t b ∷ plan) None (1 + spent)
   batch_exact κ w plan spent s o t b ks e = record {
     base = batch.next.0;
     passed = e.passed;
@@ -248,7 +247,7 @@ module _ (n : ℕ) (goal : ℕ → ℕ) (whole : List PlanCommand) where
       batch = migrate_step n goal w plan s o t b ks e.base
 
       next : World
-      next = effect w o (Migrate ks t)
+      next = effect w o (command.Migrate ks t)
 
       here : (length (κ s) ≡ suc (e.passed s)) × (count w s o ≤ slice_index (κ s) (e.passed s))
       here = subst (λ p. CountOk (κ s) (e.passed s) (count w s) p) batch.was (e.slots s)
@@ -270,24 +269,24 @@ module _ (n : ℕ) (goal : ℕ → ℕ) (whole : List PlanCommand) where
   pub spelled_exact : (κ : Counts) (w : World) (plan : List PlanCommand) (listed : Option (List Key)) (r : ℕ) (c : AdminCommand) (reply : AdminReply) (rest : List PlanCommand) (listed' : Option (List Key)) (spent : ℕ)
       → Exactly κ w plan listed spent → MayReply w r c reply → Spells (remaining plan listed) (called r c reply) (remaining rest listed') → NextExactly κ w r c reply rest listed' spent
   spelled_exact κ w [] listed r c reply rest listed' spent e i h = absurd h
-  spelled_exact κ w (planned.Importing s m at ∷ plan) None r c reply rest listed' spent e i h = exact_over κ w reply spent r at c (Importing s m) rest plan listed' None h.0 h.1 h.2 h.3
-      (setslot_exact κ κ w plan spent at s (planned.Importing s m at) (Importing s m) e (λ p x. refl) refl (λ t. refl) (import_step n goal w plan s m at e.base) refl (λ t f. refl) (λ t j g. refl))
+  spelled_exact κ w (planned.Importing s m at ∷ plan) None r c reply rest listed' spent e i h = exact_over κ w reply spent r at c (command.Importing s m) rest plan listed' None h.0 h.1 h.2 h.3
+      (setslot_exact κ κ w plan spent at s (planned.Importing s m at) (command.Importing s m) e (λ p x. refl) refl (λ t. refl) (import_step n goal w plan s m at e.base) refl (λ t f. refl) (λ t j g. refl))
   spelled_exact κ w (planned.Importing s m at ∷ plan) (Some ks) r c reply rest listed' spent e i h = absurd h
-  spelled_exact κ w (planned.Migrating s m at ∷ plan) None r c reply rest listed' spent e i h = exact_over κ w reply spent r at c (Migrating s m) rest plan listed' None h.0 h.1 h.2 h.3
-      (subst (λ a. NextExactly κ w at (Migrating s m) a plan None spent) (sym (subst₂ (λ x y. MayReply w x y reply) h.0 h.1 i ∙ fine_reply n goal whole w at s m (send_step n goal w plan s m at e.base).no_fault)) (send_exact κ w plan spent s m at e))
+  spelled_exact κ w (planned.Migrating s m at ∷ plan) None r c reply rest listed' spent e i h = exact_over κ w reply spent r at c (command.Migrating s m) rest plan listed' None h.0 h.1 h.2 h.3
+      (subst (λ a. NextExactly κ w at (command.Migrating s m) a plan None spent) (sym (subst₂ (λ x y. MayReply w x y reply) h.0 h.1 i ∙ fine_reply n goal whole w at s m (send_step n goal w plan s m at e.base).no_fault)) (send_exact κ w plan spent s m at e))
   spelled_exact κ w (planned.Migrating s m at ∷ plan) (Some ks) r c reply rest listed' spent e i h = absurd h
-  spelled_exact κ w (planned.SetNode s m at ∷ plan) None r c reply rest listed' spent e i h = exact_over κ w reply spent r at c (SetNode s m) rest plan listed' None h.0 h.1 h.2 h.3
-      (setslot_exact κ κ w plan spent at s (planned.SetNode s m at) (SetNode s m) e (λ p x. refl) refl (λ t. refl) (tell_step n goal w plan s m at e.base) refl (λ t f. refl) (λ t j g. refl))
+  spelled_exact κ w (planned.SetNode s m at ∷ plan) None r c reply rest listed' spent e i h = exact_over κ w reply spent r at c (command.SetNode s m) rest plan listed' None h.0 h.1 h.2 h.3
+      (setslot_exact κ κ w plan spent at s (planned.SetNode s m at) (command.SetNode s m) e (λ p x. refl) refl (λ t. refl) (tell_step n goal w plan s m at e.base) refl (λ t f. refl) (λ t j g. refl))
   spelled_exact κ w (planned.SetNode s m at ∷ plan) (Some ks) r c reply rest listed' spent e i h = absurd h
-  spelled_exact κ w (planned.Stable s at ∷ plan) None r c reply rest listed' spent e i h = exact_over κ w reply spent r at c (Stable s) rest plan listed' None h.0 h.1 h.2 h.3
-      (setslot_exact κ κ w plan spent at s (planned.Stable s at) (Stable s) e (λ p x. refl) refl (λ t. refl) (stable_step n goal w plan s at e.base) refl (λ t f. refl) (λ t j g. refl))
+  spelled_exact κ w (planned.Stable s at ∷ plan) None r c reply rest listed' spent e i h = exact_over κ w reply spent r at c (command.Stable s) rest plan listed' None h.0 h.1 h.2 h.3
+      (setslot_exact κ κ w plan spent at s (planned.Stable s at) (command.Stable s) e (λ p x. refl) refl (λ t. refl) (stable_step n goal w plan s at e.base) refl (λ t f. refl) (λ t j g. refl))
   spelled_exact κ w (planned.Stable s at ∷ plan) (Some ks) r c reply rest listed' spent e i h = absurd h
   spelled_exact κ w (planned.Drain s m t b ∷ plan) None r c reply rest listed' spent e i h = elim h.2 [
-    | inl u ↦ exact_over κ w reply spent r m c (KeysIn s b) rest plan listed' None h.0 h.1 u.1 u.2 (none_exact κ w plan spent s m t b e (listing_keys w r m s b c reply [] h.0 h.1 i u.0))
-    | inr u ↦ exact_over κ w reply spent r m c (KeysIn s b) rest (planned.Drain s m t b ∷ plan) listed' (Some (u.0 ∷ u.1)) h.0 h.1 u.3 u.4
+    | inl u ↦ exact_over κ w reply spent r m c (command.KeysIn s b) rest plan listed' None h.0 h.1 u.1 u.2 (none_exact κ w plan spent s m t b e (listing_keys w r m s b c reply [] h.0 h.1 i u.0))
+    | inr u ↦ exact_over κ w reply spent r m c (command.KeysIn s b) rest (planned.Drain s m t b ∷ plan) listed' (Some (u.0 ∷ u.1)) h.0 h.1 u.3 u.4
         (some_exact κ w plan spent s m t b u.0 u.1 e (listing_keys w r m s b c reply (u.0 ∷ u.1) h.0 h.1 i u.2))
   ]
-  spelled_exact κ w (planned.Drain s m t b ∷ plan) (Some ks) r c reply rest listed' spent e i h = exact_over κ w reply spent r m c (Migrate ks t) rest (planned.Drain s m t b ∷ plan) listed' None h.0 h.1 h.2 h.3
+  spelled_exact κ w (planned.Drain s m t b ∷ plan) (Some ks) r c reply rest listed' spent e i h = exact_over κ w reply spent r m c (command.Migrate ks t) rest (planned.Drain s m t b ∷ plan) listed' None h.0 h.1 h.2 h.3
       (batch_exact κ w plan spent s m t b ks e)
 
   pub run_exact : (es : List Event) (κ : Counts) (w last : World) (past : List Event) (plan rest : List PlanCommand) (listed listed' : Option (List Key)) (store : Store) (spent : ℕ) → Inv n goal w past plan listed store

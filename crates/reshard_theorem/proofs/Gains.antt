@@ -12,8 +12,7 @@ use Rattle.slot_marks.specs.declared.verdict.Verdict.TheVariants.{Serve}
 use Rattle.cluster_node.specs.Nodes.{is_serve}
 use Rattle.cluster_admin.specs.declared.admin.AdminFault.{AdminFault}
 use Rattle.cluster_admin.specs.declared.admin.AdminCommand.{AdminCommand}
-use Rattle.cluster_admin.specs.declared.admin.AdminCommand.TheVariants.{Importing, Migrating, SetNode, Stable, KeysIn}
-use Rattle.cluster_admin.specs.declared.admin.AdminCommand.TheVariants.{Migrate}
+use Rattle.cluster_admin.specs.declared.admin.AdminCommand.TheVariants as command
 use Rattle.cluster_admin.specs.declared.admin.AdminReply.{AdminReply}
 use Rattle.cluster_world.specs.Worlds.{World, verdict, owner, migrating, importing, held}
 use Rattle.cluster_world.specs.Commanding.{admin_fault, effect, admin_after}
@@ -25,7 +24,7 @@ use Rattle.plan_language.specs.declared.plan_command.PlanCommand.TheVariants as 
 use Rattle.plan_semantics.specs.Plans.{final_owner}
 use Rattle.plan_semantics.specs.Driving.{Remaining, remaining, called, Spells, Spelled}
 use Rattle.cluster_world.specs.AdminCalls.{calls}
-use Rattle.reshard_theorem.proofs.Phases.{Phase, Closed, Opening, Moving, Drained, Half, Telling, goes_in, comes_in, Rest, named_slot, none_cond}
+use Rattle.reshard_theorem.proofs.Phases.{Phase, Closed, Importing, Migrating, Drained, TargetTold, SourceTold, goes_in, comes_in, Rest, named_slot, none_cond}
 use Rattle.reshard_theorem.proofs.Verdicts.{ServedBy, served_by}
 use Rattle.reshard_theorem.proofs.Base.{Base}
 use Rattle.reshard_theorem.proofs.Admins.{Calm, Batch, import_step, send_step, list_none_step, list_some_step, migrate_step, tell_step, stable_step}
@@ -63,11 +62,11 @@ module _ (n : ℕ) (goal : ℕ → ℕ) where
       there : admin_after w r c ≡ effect w r c
       there = after_admin n goal w r c calm.no_fault
 
-  batch_turned : (w : World) (plan : List PlanCommand) (s o t b : ℕ) (ks : List Key) (base : Base n goal w (planned.Drain s o t b ∷ plan) (Some ks)) → Batch n goal w plan s o t b ks base → Turned w o (Migrate ks t) (planned.Drain s o t b ∷ plan) None
-  batch_turned w plan s o t b ks base batch = elim (cases_Bool (is_some (admin_fault w o (Migrate ks t)))) [
+  batch_turned : (w : World) (plan : List PlanCommand) (s o t b : ℕ) (ks : List Key) (base : Base n goal w (planned.Drain s o t b ∷ plan) (Some ks)) → Batch n goal w plan s o t b ks base → Turned w o (command.Migrate ks t) (planned.Drain s o t b ∷ plan) None
+  batch_turned w plan s o t b ks base batch = elim (cases_Bool (is_some (admin_fault w o (command.Migrate ks t)))) [
     | inl u ↦ record {
-      base = subst (λ x. Base n goal x (planned.Drain s o t b ∷ plan) None) (sym (some_fault w o (Migrate ks t) u)) (record { size = base.size; widths = base.widths; marks = base.marks; emptied = base.emptied; listing = tt });
-      gains = λ node v k p g i h. ap (λ x. held x node k) (some_fault w o (Migrate ks t) u) ∙ h;
+      base = subst (λ x. Base n goal x (planned.Drain s o t b ∷ plan) None) (sym (some_fault w o (command.Migrate ks t) u)) (record { size = base.size; widths = base.widths; marks = base.marks; emptied = base.emptied; listing = tt });
+      gains = λ node v k p g i h. ap (λ x. held x node k) (some_fault w o (command.Migrate ks t) u) ∙ h;
     }
     | inr u ↦ record {
       base = subst (λ x. Base n goal x (planned.Drain s o t b ∷ plan) None) (sym (there u)) batch.next.0;
@@ -75,8 +74,8 @@ module _ (n : ℕ) (goal : ℕ → ℕ) where
     }
   ]
     where
-      there : is_some (admin_fault w o (Migrate ks t)) ≡ false → admin_after w o (Migrate ks t) ≡ effect w o (Migrate ks t)
-      there u = after_admin n goal w o (Migrate ks t) (none_fault _ u)
+      there : is_some (admin_fault w o (command.Migrate ks t)) ≡ false → admin_after w o (command.Migrate ks t) ≡ effect w o (command.Migrate ks t)
+      there u = after_admin n goal w o (command.Migrate ks t) (none_fault _ u)
 
       none_cond' : (c : Bool) (v : Option Value) → v ≡ None → cond c None v ≡ None
       none_cond' true v e = refl
@@ -86,10 +85,10 @@ module _ (n : ℕ) (goal : ℕ → ℕ) where
       no_mark : (migrating w t s) ≡ None
       no_mark = (base.marks s).going t ∙ ap (λ f. goes_in f t) batch.was ∙ cond-false _ _ _ (ne_eqb t o (λ e. batch.apart (sym e)))
 
-      gain : (node v : ℕ) (k : Key) → owner w node v ≡ node → migrating w node v ≢ None → slot_of k ≡ v → held w node k ≡ None → held (effect w o (Migrate ks t)) node k ≡ None
+      gain : (node v : ℕ) (k : Key) → owner w node v ≡ node → migrating w node v ≢ None → slot_of k ≡ v → held w node k ≡ None → held (effect w o (command.Migrate ks t)) node k ≡ None
       gain node v k p g i h = elim (cases_eq v s) [
         | inl e ↦ elim (cases_eq node o) [
-          | inl f ↦ subst (λ y. held (effect w o (Migrate ks t)) y k ≡ None) (sym f) (batch.at_source k ∙ none_cond' (is_named k ks) (held w o k) (subst (λ y. held w y k ≡ None) f h))
+          | inl f ↦ subst (λ y. held (effect w o (command.Migrate ks t)) y k ≡ None) (sym f) (batch.at_source k ∙ none_cond' (is_named k ks) (held w o k) (subst (λ y. held w y k ≡ None) f h))
           | inr f ↦ elim (cases_eq node t) [
             | inl j ↦ absurd (g (ap (migrating w node) e ∙ ap (λ y. migrating w y s) j ∙ no_mark))
             | inr j ↦ batch.elsewhere node k f j ∙ h
@@ -106,30 +105,30 @@ module _ (n : ℕ) (goal : ℕ → ℕ) where
   pub turned : (w : World) (plan : List PlanCommand) (listed : Option (List Key)) (r : ℕ) (c : AdminCommand) (reply : AdminReply) (rest : List PlanCommand) (listed' : Option (List Key))
       → Base n goal w plan listed → MayReply w r c reply → Spells (remaining plan listed) (called r c reply) (remaining rest listed') → Turned w r c rest listed'
   turned w [] listed r c reply rest listed' b e h = absurd h
-  turned w (planned.Importing s m at ∷ plan) None r c reply rest listed' b e h = turned_over w r at c (Importing s m) rest plan listed' None h.0 h.1 h.2 h.3 (calm_turned w (planned.Importing s m at ∷ plan) plan None None at s (Importing s m) false b (import_step n goal w plan s m at b))
+  turned w (planned.Importing s m at ∷ plan) None r c reply rest listed' b e h = turned_over w r at c (command.Importing s m) rest plan listed' None h.0 h.1 h.2 h.3 (calm_turned w (planned.Importing s m at ∷ plan) plan None None at s (command.Importing s m) false b (import_step n goal w plan s m at b))
   turned w (planned.Importing s m at ∷ plan) (Some ks) r c reply rest listed' b e h = absurd h
-  turned w (planned.Migrating s m at ∷ plan) None r c reply rest listed' b e h = turned_over w r at c (Migrating s m) rest plan listed' None h.0 h.1 h.2 h.3 (calm_turned w (planned.Migrating s m at ∷ plan) plan None None at s (Migrating s m) false b (send_step n goal w plan s m at b))
+  turned w (planned.Migrating s m at ∷ plan) None r c reply rest listed' b e h = turned_over w r at c (command.Migrating s m) rest plan listed' None h.0 h.1 h.2 h.3 (calm_turned w (planned.Migrating s m at ∷ plan) plan None None at s (command.Migrating s m) false b (send_step n goal w plan s m at b))
   turned w (planned.Migrating s m at ∷ plan) (Some ks) r c reply rest listed' b e h = absurd h
-  turned w (planned.SetNode s m at ∷ plan) None r c reply rest listed' b e h = turned_over w r at c (SetNode s m) rest plan listed' None h.0 h.1 h.2 h.3 (calm_turned w (planned.SetNode s m at ∷ plan) plan None None at s (SetNode s m) false b (tell_step n goal w plan s m at b))
-  turned w (planned.Stable s at ∷ plan) None r c reply rest listed' b e h = turned_over w r at c (Stable s) rest plan listed' None h.0 h.1 h.2 h.3 (calm_turned w (planned.Stable s at ∷ plan) plan None None at s (Stable s) false b (stable_step n goal w plan s at b))
+  turned w (planned.SetNode s m at ∷ plan) None r c reply rest listed' b e h = turned_over w r at c (command.SetNode s m) rest plan listed' None h.0 h.1 h.2 h.3 (calm_turned w (planned.SetNode s m at ∷ plan) plan None None at s (command.SetNode s m) false b (tell_step n goal w plan s m at b))
+  turned w (planned.Stable s at ∷ plan) None r c reply rest listed' b e h = turned_over w r at c (command.Stable s) rest plan listed' None h.0 h.1 h.2 h.3 (calm_turned w (planned.Stable s at ∷ plan) plan None None at s (command.Stable s) false b (stable_step n goal w plan s at b))
   turned w (planned.SetNode s m at ∷ plan) (Some ks) r c reply rest listed' b e h = absurd h
   turned w (planned.Stable s at ∷ plan) (Some ks) r c reply rest listed' b e h = absurd h
   turned w (planned.Drain s m t d ∷ plan) None r c reply rest listed' b e h = elim h.2 [
-    | inl u ↦ turned_over w r m c (KeysIn s d) rest plan listed' None h.0 h.1 u.1 u.2
-        (calm_turned w (planned.Drain s m t d ∷ plan) plan None None m s (KeysIn s d) true b (list_none_step n goal w plan s m t d b (listing_keys w r m s d c reply [] h.0 h.1 e u.0)))
-    | inr u ↦ turned_over w r m c (KeysIn s d) rest (planned.Drain s m t d ∷ plan) listed' (Some (u.0 ∷ u.1)) h.0 h.1 u.3 u.4
-        (calm_turned w (planned.Drain s m t d ∷ plan) (planned.Drain s m t d ∷ plan) None (Some (u.0 ∷ u.1)) m s (KeysIn s d) false b (list_some_step n goal w plan s m t d u.0 u.1 b (listing_keys w r m s d c reply (u.0 ∷ u.1) h.0 h.1 e u.2)))
+    | inl u ↦ turned_over w r m c (command.KeysIn s d) rest plan listed' None h.0 h.1 u.1 u.2
+        (calm_turned w (planned.Drain s m t d ∷ plan) plan None None m s (command.KeysIn s d) true b (list_none_step n goal w plan s m t d b (listing_keys w r m s d c reply [] h.0 h.1 e u.0)))
+    | inr u ↦ turned_over w r m c (command.KeysIn s d) rest (planned.Drain s m t d ∷ plan) listed' (Some (u.0 ∷ u.1)) h.0 h.1 u.3 u.4
+        (calm_turned w (planned.Drain s m t d ∷ plan) (planned.Drain s m t d ∷ plan) None (Some (u.0 ∷ u.1)) m s (command.KeysIn s d) false b (list_some_step n goal w plan s m t d u.0 u.1 b (listing_keys w r m s d c reply (u.0 ∷ u.1) h.0 h.1 e u.2)))
   ]
-  turned w (planned.Drain s m t d ∷ plan) (Some ks) r c reply rest listed' b e h = turned_over w r m c (Migrate ks t) rest (planned.Drain s m t d ∷ plan) listed' None h.0 h.1 h.2 h.3 (batch_turned w plan s m t d ks b (migrate_step n goal w plan s m t d ks b))
+  turned w (planned.Drain s m t d ∷ plan) (Some ks) r c reply rest listed' b e h = turned_over w r m c (command.Migrate ks t) rest (planned.Drain s m t d ∷ plan) listed' None h.0 h.1 h.2 h.3 (batch_turned w plan s m t d ks b (migrate_step n goal w plan s m t d ks b))
 
   -- a node with a migrating mark has no importing one
   no_import : (s : ℕ) (phase : Phase) (rest : List PlanCommand) (m : ℕ) → Rest n (goal s) s phase rest → goes_in phase m ≢ None → comes_in phase m ≡ None
   no_import s (Closed o) rest m left g = refl
-  no_import s (Opening o t) rest m left g = absurd (g refl)
-  no_import s (Moving o t) rest m left g = cond-false _ _ _ (ne_eqb m t (λ e. left.ends.apart (sym (eqb-true m o (none_cond (eqb m o) t g)) ∙ e)))
+  no_import s (Importing o t) rest m left g = absurd (g refl)
+  no_import s (Migrating o t) rest m left g = cond-false _ _ _ (ne_eqb m t (λ e. left.ends.apart (sym (eqb-true m o (none_cond (eqb m o) t g)) ∙ e)))
   no_import s (Drained o t) rest m left g = cond-false _ _ _ (ne_eqb m t (λ e. left.ends.apart (sym (eqb-true m o (none_cond (eqb m o) t g)) ∙ e)))
-  no_import s (Half o t) rest m left g = refl
-  no_import s (Telling o t told) rest m left g = refl
+  no_import s (TargetTold o t) rest m left g = refl
+  no_import s (SourceTold o t told) rest m left g = refl
 
   client_gains : (w : World) (plan : List PlanCommand) (listed : Option (List Key)) (x : ℕ) (asking : Bool) (c : Command) → Base n goal w plan listed → x < length w.nodes → ServedBy w x asking (keys c) → GainsNone w (served_world w x c)
   client_gains w plan listed x asking c b inside by node s k own mark slot none = elim (cases_Bool (is_named k (keys c))) [

@@ -27,7 +27,7 @@ use Rattle.plan_semantics.specs.Plans.{part}
 use Rattle.cluster_world.specs.Honesty.{WasAsked, IsEarned}
 use Rattle.reshard_theorem.proofs.Split.{Contents, alone_agrees, serve_splits}
 use Rattle.reshard_theorem.proofs.Verdicts.{ServedBy, served_by, AskedBy, asked_by}
-use Rattle.reshard_theorem.proofs.Phases.{Phase, Closed, Opening, Moving, Drained, Half, Telling, goes_in, may_hold, AskFine, Rest, Data, Fits, fits_in, named_slot, ask_kept, none_cond}
+use Rattle.reshard_theorem.proofs.Phases.{Phase, Closed, Importing, Migrating, Drained, TargetTold, SourceTold, goes_in, may_hold, AskFine, Rest, Data, Fits, fits_in, named_slot, ask_kept, none_cond}
 use Rattle.reshard_theorem.proofs.Base.{Base, Inv, MarksIn, Stays}
 use Rattle.reshard_theorem.proofs.Asks.{told_is_ask}
 use Rattle.reshard_theorem.proofs.Served.{served_world, served_port, served_elsewhere, served_at, served_unnamed}
@@ -37,12 +37,12 @@ use Rattle.reshard_theorem.proofs.Clients.{is_serve_Serve, served_base, after_se
 ask_fine_in : (n goal s : ℕ) (phase : Phase) (rest : List PlanCommand) (has : Contents) (ks : List Key) (x m to : ℕ) → Rest n goal s phase rest
     → goes_in phase x ≡ Some m → ((q : Key) → is_named q ks ≡ true → has x q ≡ None) → AskFine phase has ks to
 ask_fine_in n goal s (Closed o) rest has ks x m to left e missing = tt
-ask_fine_in n goal s (Opening o t) rest has ks x m to left e missing = cc
-ask_fine_in n goal s (Moving o t) rest has ks x m to left e missing =
+ask_fine_in n goal s (Importing o t) rest has ks x m to left e missing = cc
+ask_fine_in n goal s (Migrating o t) rest has ks x m to left e missing =
     λ p q i. subst (λ y. has y q ≡ None) (eqb-true x o (none_cond (eqb x o) t (λ u. true≢false (ap is_some (sym e ∙ u))))) (missing q i)
 ask_fine_in n goal s (Drained o t) rest has ks x m to left e missing = tt
-ask_fine_in n goal s (Half o t) rest has ks x m to left e missing = tt
-ask_fine_in n goal s (Telling o t redirection) rest has ks x m to left e missing = tt
+ask_fine_in n goal s (TargetTold o t) rest has ks x m to left e missing = tt
+ask_fine_in n goal s (SourceTold o t redirection) rest has ks x m to left e missing = tt
 
 module _ (n : ℕ) (goal : ℕ → ℕ) (w : World) (past : List Event) (plan : List PlanCommand) (listed : Option (List Key)) (store : Store)
     (seat x : ℕ) (asking : Bool) (c : Command) (reply : Reply) where
@@ -117,11 +117,11 @@ module _ (n : ℕ) (goal : ℕ → ℕ) (w : World) (past : List Event) (plan : 
         | inr u ↦ served_unnamed w x c inside m k u ∙ (inv.lies t).place m k i e
       ]
 
-      keeps : (t : ℕ) (a b : ℕ) → phase t ≡ Moving a b → (q : Key) → slot_of q ≡ t → held w a q ≡ None → held next a q ≡ None
+      keeps : (t : ℕ) (a b : ℕ) → phase t ≡ Migrating a b → (q : Key) → slot_of q ≡ t → held w a q ≡ None → held next a q ≡ None
       keeps t a b p q i none = elim (cases_Bool (is_named q ks)) [
         | inl u ↦ elim (cases_eq a x) [
           | inl v ↦ (let here : t ≡ s = sym i ∙ named_slot ks by.one_slot q u in
-              absurd (true≢false (sym (fits.keeps a b (subst (λ y. phase y ≡ Moving a b) here p) (sym v) q u) ∙ ap is_some none)))
+              absurd (true≢false (sym (fits.keeps a b (subst (λ y. phase y ≡ Migrating a b) here p) (sym v) q u) ∙ ap is_some none)))
           | inr v ↦ served_elsewhere w x c inside a q v ∙ none
         ]
         | inr u ↦ served_unnamed w x c inside a q u ∙ none

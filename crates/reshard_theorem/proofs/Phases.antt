@@ -19,59 +19,59 @@ use Rattle.reshard_theorem.proofs.Verdicts.{none_named}
 
 pub data Phase : Type 0 where
   Closed : (owner : ℕ) → Phase
-  Opening : (source target : ℕ) → Phase
-  Moving : (source target : ℕ) → Phase
+  Importing : (source target : ℕ) → Phase
+  Migrating : (source target : ℕ) → Phase
   Drained : (source target : ℕ) → Phase
-  Half : (source target : ℕ) → Phase
-  Telling : (source target : ℕ) (left : List ℕ) → Phase
+  TargetTold : (source target : ℕ) → Phase
+  SourceTold : (source target : ℕ) (left : List ℕ) → Phase
 
 -- what node n has on the slot
 abbrev pub own_in : Phase → ℕ → ℕ
 own_in (Closed o) n = o
-own_in (Opening s t) n = s
-own_in (Moving s t) n = s
+own_in (Importing s t) n = s
+own_in (Migrating s t) n = s
 own_in (Drained s t) n = s
-own_in (Half s t) n = cond (eqb n t) t s
-own_in (Telling s t left) n = cond (among n left) s t
+own_in (TargetTold s t) n = cond (eqb n t) t s
+own_in (SourceTold s t left) n = cond (among n left) s t
 
 abbrev pub goes_in : Phase → ℕ → Option ℕ
 goes_in (Closed o) n = None
-goes_in (Opening s t) n = None
-goes_in (Moving s t) n = cond (eqb n s) (Some t) None
+goes_in (Importing s t) n = None
+goes_in (Migrating s t) n = cond (eqb n s) (Some t) None
 goes_in (Drained s t) n = cond (eqb n s) (Some t) None
-goes_in (Half s t) n = cond (eqb n s) (Some t) None
-goes_in (Telling s t left) n = None
+goes_in (TargetTold s t) n = cond (eqb n s) (Some t) None
+goes_in (SourceTold s t left) n = None
 
 abbrev pub comes_in : Phase → ℕ → Option ℕ
 comes_in (Closed o) n = None
-comes_in (Opening s t) n = cond (eqb n t) (Some s) None
-comes_in (Moving s t) n = cond (eqb n t) (Some s) None
+comes_in (Importing s t) n = cond (eqb n t) (Some s) None
+comes_in (Migrating s t) n = cond (eqb n t) (Some s) None
 comes_in (Drained s t) n = cond (eqb n t) (Some s) None
-comes_in (Half s t) n = None
-comes_in (Telling s t left) n = None
+comes_in (TargetTold s t) n = None
+comes_in (SourceTold s t left) n = None
 
 -- whether node n may hold keys of the slot
 abbrev pub may_hold : Phase → ℕ → Bool
 may_hold (Closed o) n = eqb n o
-may_hold (Opening s t) n = eqb n s
-may_hold (Moving s t) n = eqb n s || eqb n t
+may_hold (Importing s t) n = eqb n s
+may_hold (Migrating s t) n = eqb n s || eqb n t
 may_hold (Drained s t) n = eqb n t
-may_hold (Half s t) n = eqb n t
-may_hold (Telling s t left) n = eqb n t
+may_hold (TargetTold s t) n = eqb n t
+may_hold (SourceTold s t left) n = eqb n t
 
 -- a slot whose last nodes are being told: once there is none, it is closed
 abbrev pub telling : (source target : ℕ) (left : List ℕ) → Phase
 telling o t [] = Closed t
-telling o t (m ∷ left) = Telling o t (m ∷ left)
+telling o t (m ∷ left) = SourceTold o t (m ∷ left)
 
 -- what is known of keys of the slot that some event answered with an ASK to the node, since the node imports the slot
 abbrev pub AskFine : Phase → Contents → List Key → ℕ → Type 0
 AskFine (Closed o) has ks n = Unit {0}
-AskFine (Opening s t) has ks n = n ≢ t
-AskFine (Moving s t) has ks n = n ≡ t → (q : Key) → is_named q ks ≡ true → has s q ≡ None
+AskFine (Importing s t) has ks n = n ≢ t
+AskFine (Migrating s t) has ks n = n ≡ t → (q : Key) → is_named q ks ≡ true → has s q ≡ None
 AskFine (Drained s t) has ks n = Unit {0}
-AskFine (Half s t) has ks n = Unit {0}
-AskFine (Telling s t left) has ks n = Unit {0}
+AskFine (TargetTold s t) has ks n = Unit {0}
+AskFine (SourceTold s t left) has ks n = Unit {0}
 
 -- the owner after the legs
 abbrev pub leg_end : ℕ → List Leg → ℕ
@@ -92,7 +92,7 @@ pub record ClosedRest (n goal s o : ℕ) (rest : List PlanCommand) : Type 0 wher
   pub below : rest ≢ [] → s < 16384
   pub goes_on : More n goal s o rest
 
-pub record OpeningRest (n goal s o t : ℕ) (rest : List PlanCommand) : Type 0 where
+pub record ImportingRest (n goal s o t : ℕ) (rest : List PlanCommand) : Type 0 where
   pub below : s < 16384
   pub batch : ℕ
   pub others : List ℕ
@@ -109,7 +109,7 @@ pub record BackRest (n goal s o t : ℕ) (rest : List PlanCommand) : Type 0 wher
   pub goes_on : More n goal s o more
   pub is : rest ≡ planned.Stable s t ∷ more
 
-pub record MovingRest (n goal s o t : ℕ) (rest : List PlanCommand) : Type 0 where
+pub record MigratingRest (n goal s o t : ℕ) (rest : List PlanCommand) : Type 0 where
   pub below : s < 16384
   pub batch : ℕ
   pub others : List ℕ
@@ -127,7 +127,7 @@ pub record DrainedRest (n goal s o t : ℕ) (rest : List PlanCommand) : Type 0 w
   pub goes_on : More n goal s t more
   pub is : rest ≡ planned.SetNode s t t ∷ planned.SetNode s t o ∷ (tell s t others ++ more)
 
-pub record HalfRest (n goal s o t : ℕ) (rest : List PlanCommand) : Type 0 where
+pub record TargetToldRest (n goal s o t : ℕ) (rest : List PlanCommand) : Type 0 where
   pub below : s < 16384
   pub others : List ℕ
   pub ends : AreEnds n o t others
@@ -135,7 +135,7 @@ pub record HalfRest (n goal s o t : ℕ) (rest : List PlanCommand) : Type 0 wher
   pub goes_on : More n goal s t more
   pub is : rest ≡ planned.SetNode s t o ∷ (tell s t others ++ more)
 
-pub record TellingRest (n goal s o t : ℕ) (left : List ℕ) (rest : List PlanCommand) : Type 0 where
+pub record SourceToldRest (n goal s o t : ℕ) (left : List ℕ) (rest : List PlanCommand) : Type 0 where
   pub below : s < 16384
   pub two : AreTwo n o t
   pub others : AreOthers n o t left
@@ -147,11 +147,11 @@ pub record TellingRest (n goal s o t : ℕ) (left : List ℕ) (rest : List PlanC
 -- what is left of the plan's commands for the slot; `goal` is its owner in the end
 abbrev pub Rest : (n goal s : ℕ) → Phase → List PlanCommand → Type 0
 Rest n goal s (Closed o) rest = ClosedRest n goal s o rest
-Rest n goal s (Opening o t) rest = OpeningRest n goal s o t rest ⊎ BackRest n goal s o t rest
-Rest n goal s (Moving o t) rest = MovingRest n goal s o t rest
+Rest n goal s (Importing o t) rest = ImportingRest n goal s o t rest ⊎ BackRest n goal s o t rest
+Rest n goal s (Migrating o t) rest = MigratingRest n goal s o t rest
 Rest n goal s (Drained o t) rest = DrainedRest n goal s o t rest
-Rest n goal s (Half o t) rest = HalfRest n goal s o t rest
-Rest n goal s (Telling o t left) rest = TellingRest n goal s o t left rest
+Rest n goal s (TargetTold o t) rest = TargetToldRest n goal s o t rest
+Rest n goal s (SourceTold o t left) rest = SourceToldRest n goal s o t left rest
 
 -- What owners and marks of one slot say, whatever clients do
 pub record Marks (n goal s : ℕ) (own : ℕ → ℕ) (goes comes : ℕ → Option ℕ) (rest : List PlanCommand) : Type 0 where
@@ -164,29 +164,29 @@ pub record Marks (n goal s : ℕ) (own : ℕ → ℕ) (goes comes : ℕ → Opti
 -- the source of a drained slot stays without keys, whatever clients do
 abbrev pub Emptied : ℕ → Phase → Contents → Type 0
 Emptied s (Closed o) has = Unit {0}
-Emptied s (Opening o t) has = Unit {0}
-Emptied s (Moving o t) has = Unit {0}
+Emptied s (Importing o t) has = Unit {0}
+Emptied s (Migrating o t) has = Unit {0}
 Emptied s (Drained o t) has = (k : Key) → slot_of k ≡ s → has o k ≡ None
-Emptied s (Half o t) has = (k : Key) → slot_of k ≡ s → has o k ≡ None
-Emptied s (Telling o t left) has = Unit {0}
+Emptied s (TargetTold o t) has = (k : Key) → slot_of k ≡ s → has o k ≡ None
+Emptied s (SourceTold o t left) has = Unit {0}
 
 -- What the counts of the slot's migrations, of which i are drained, say of the counts h that nodes have now
 abbrev pub CountOk : List ℕ → ℕ → (ℕ → ℕ) → Phase → Type 0
 CountOk ks i h (Closed o) = length ks ≡ i
-CountOk ks i h (Opening o t) = length ks ≡ i
-CountOk ks i h (Moving o t) = (length ks ≡ suc i) × (h o ≤ slice_index ks i)
+CountOk ks i h (Importing o t) = length ks ≡ i
+CountOk ks i h (Migrating o t) = (length ks ≡ suc i) × (h o ≤ slice_index ks i)
 CountOk ks i h (Drained o t) = length ks ≡ i
-CountOk ks i h (Half o t) = length ks ≡ i
-CountOk ks i h (Telling o t left) = length ks ≡ i
+CountOk ks i h (TargetTold o t) = length ks ≡ i
+CountOk ks i h (SourceTold o t left) = length ks ≡ i
 
 -- where no client comes between and the drain has not begun, the source still holds what was counted
 abbrev pub Fresh : List ℕ → ℕ → (ℕ → ℕ) → Phase → Type 0
 Fresh ks i h (Closed o) = Unit {0}
-Fresh ks i h (Opening o t) = Unit {0}
-Fresh ks i h (Moving o t) = h o ≡ slice_index ks i
+Fresh ks i h (Importing o t) = Unit {0}
+Fresh ks i h (Migrating o t) = h o ≡ slice_index ks i
 Fresh ks i h (Drained o t) = Unit {0}
-Fresh ks i h (Half o t) = Unit {0}
-Fresh ks i h (Telling o t left) = Unit {0}
+Fresh ks i h (TargetTold o t) = Unit {0}
+Fresh ks i h (SourceTold o t left) = Unit {0}
 
 -- Where the slot's keys lie, if clients are honest
 pub record Data (port s : ℕ) (phase : Phase) (has : Contents) (past : List Event) : Type 0 where
@@ -205,7 +205,7 @@ none_cond false v e = absurd (e refl)
 pub both_false : (a b : Bool) → a ≡ false → b ≡ false → (a || b) ≡ false
 both_false a b p q = ap (λ c. c || b) p ∙ q
 
-moving_source : (o t a b : ℕ) → Moving o t ≡ Moving a b → o ≡ a
+moving_source : (o t a b : ℕ) → Migrating o t ≡ Migrating a b → o ≡ a
 moving_source o t a b e = cc
 
 pub marked : (x o t : ℕ) → x ≡ o → cond (eqb x o) (Some t) None ≢ None
@@ -220,7 +220,7 @@ marked x o t e p = some_none t (sym (cond-true (eqb x o) (Some t) None (eq-eqb x
 pub record Fits (phase : Phase) (has : Contents) (x : ℕ) (ks : List Key) : Type 0 where
   pub alone : IsAlone has ks x
   pub holds : (q : Key) → is_named q ks ≡ true → may_hold phase x ≡ true
-  pub keeps : (s t : ℕ) → phase ≡ Moving s t → x ≡ s → (q : Key) → is_named q ks ≡ true → is_some (has s q) ≡ true
+  pub keeps : (s t : ℕ) → phase ≡ Migrating s t → x ≡ s → (q : Key) → is_named q ks ≡ true → is_some (has s q) ≡ true
 
 eqb_itself : (a : ℕ) → eqb a a ≡ true
 eqb_itself a = eq-eqb a a refl
@@ -231,7 +231,7 @@ module _ (s : ℕ) (has : Contents) (all : Whole) (ks : List Key) (split : Split
 
   -- the node is the only one that may hold keys of the slot
   fits_only : (phase : Phase) (a x : ℕ) → ((m : ℕ) (k : Key) → slot_of k ≡ s → eqb m a ≡ false → has m k ≡ None) → a ≡ x → may_hold phase a ≡ true
-      → ((o t : ℕ) → phase ≡ Moving o t → ⊥) → Fits phase has x ks
+      → ((o t : ℕ) → phase ≡ Migrating o t → ⊥) → Fits phase has x ks
   fits_only phase a x place e may not_moving = record {
     alone = λ q m i p. place m q (of_slot q i) (ne_eqb m a (λ u. p (u ∙ e)));
     holds = λ q i. subst (λ y. may_hold phase y ≡ true) e may;
@@ -240,7 +240,7 @@ module _ (s : ℕ) (has : Contents) (all : Whole) (ks : List Key) (split : Split
 
   -- the node has all the keys, and may hold none
   fits_none : (phase : Phase) (x : ℕ) → ((k : Key) → slot_of k ≡ s → has x k ≡ None) → ((q : Key) → is_named q ks ≡ true → is_some (has x q) ≡ true)
-      → ((o t : ℕ) → phase ≡ Moving o t → ⊥) → Fits phase has x ks
+      → ((o t : ℕ) → phase ≡ Migrating o t → ⊥) → Fits phase has x ks
   fits_none phase x none present not_moving =
       let no : (q : Key) → is_named q ks ≡ true → ⊥ = λ q i. true≢false (sym (present q i) ∙ ap is_some (none q (of_slot q i))) in
       record {
@@ -255,9 +255,9 @@ module _ (s : ℕ) (has : Contents) (all : Whole) (ks : List Key) (split : Split
       → Fits phase has x ks
   fits_in n goal (Closed o) rest left x place (inl w) = absurd (w.0 refl)
   fits_in n goal (Closed o) rest left x place (inr w) = fits_only (Closed o) o x place w.0 (eqb_itself o) (λ a b e. cc)
-  fits_in n goal (Opening o t) rest left x place (inl w) = absurd (w.1 (eqb-true x t (none_cond (eqb x t) o w.0)))
-  fits_in n goal (Opening o t) rest left x place (inr w) = fits_only (Opening o t) o x place w.0 (eqb_itself o) (λ a b e. cc)
-  fits_in n goal (Moving o t) rest left x place (inl w) =
+  fits_in n goal (Importing o t) rest left x place (inl w) = absurd (w.1 (eqb-true x t (none_cond (eqb x t) o w.0)))
+  fits_in n goal (Importing o t) rest left x place (inr w) = fits_only (Importing o t) o x place w.0 (eqb_itself o) (λ a b e. cc)
+  fits_in n goal (Migrating o t) rest left x place (inl w) =
       let e : x ≡ t = eqb-true x t (none_cond (eqb x t) o w.0) in
       record {
         alone = λ q m i p. elim (cases_eq m o) [
@@ -267,7 +267,7 @@ module _ (s : ℕ) (has : Contents) (all : Whole) (ks : List Key) (split : Split
         holds = λ q i. or_right (eqb x o) (eqb x t) (eq-eqb x t e);
         keeps = λ a b u v. absurd (left.ends.apart (moving_source o t a b u ∙ sym v ∙ e));
       }
-  fits_in n goal (Moving o t) rest left x place (inr w) =
+  fits_in n goal (Migrating o t) rest left x place (inr w) =
       let present : (q : Key) → is_named q ks ≡ true → is_some (has x q) ≡ true = w.1 (marked x o t (sym w.0)) in
       record {
         alone = λ q m i p. (split q).2 m (λ u. p (u ∙ sym (has_home has all split q x (present q i))));
@@ -277,29 +277,29 @@ module _ (s : ℕ) (has : Contents) (all : Whole) (ks : List Key) (split : Split
   fits_in n goal (Drained o t) rest left x place (inl w) = fits_only (Drained o t) t x place (sym (eqb-true x t (none_cond (eqb x t) o w.0))) (eqb_itself t) (λ a b e. cc)
   fits_in n goal (Drained o t) rest left x place (inr w) =
       fits_none (Drained o t) x (λ k i. place x k i (ne_eqb x t (λ u. left.ends.apart (w.0 ∙ u)))) (w.1 (marked x o t (sym w.0))) (λ a b e. cc)
-  fits_in n goal (Half o t) rest left x place (inl w) = absurd (w.0 refl)
-  fits_in n goal (Half o t) rest left x place (inr w) = elim (cases_eq x t) [
-    | inl u ↦ fits_only (Half o t) t x place (sym u) (eqb_itself t) (λ a b e. cc)
+  fits_in n goal (TargetTold o t) rest left x place (inl w) = absurd (w.0 refl)
+  fits_in n goal (TargetTold o t) rest left x place (inr w) = elim (cases_eq x t) [
+    | inl u ↦ fits_only (TargetTold o t) t x place (sym u) (eqb_itself t) (λ a b e. cc)
     | inr u ↦ (let e : o ≡ x = sym (cond-false (eqb x t) t o (ne_eqb x t u)) ∙ w.0 in
-        fits_none (Half o t) x (λ k i. place x k i (ne_eqb x t u)) (w.1 (marked x o t (sym e))) (λ a b e. cc))
+        fits_none (TargetTold o t) x (λ k i. place x k i (ne_eqb x t u)) (w.1 (marked x o t (sym e))) (λ a b e. cc))
   ]
-  fits_in n goal (Telling o t told) rest left x place (inl w) = absurd (w.0 refl)
-  fits_in n goal (Telling o t told) rest left x place (inr w) = elim (cases_Bool (among x told)) [
+  fits_in n goal (SourceTold o t told) rest left x place (inl w) = absurd (w.0 refl)
+  fits_in n goal (SourceTold o t told) rest left x place (inr w) = elim (cases_Bool (among x told)) [
     | inl u ↦ (let e : o ≡ x = sym (cond-true (among x told) o t u) ∙ w.0 in
         absurd (true≢false (sym u ∙ not_among n o t told x left.others.each_other (inl (sym e)))))
-    | inr u ↦ fits_only (Telling o t told) t x place (sym (cond-false (among x told) o t u) ∙ w.0) (eqb_itself t) (λ a b e. cc)
+    | inr u ↦ fits_only (SourceTold o t told) t x place (sym (cond-false (among x told) o t u) ∙ w.0) (eqb_itself t) (λ a b e. cc)
   ]
 
 -- ---- what keeps a slot
 
 pub ask_kept : (phase : Phase) (has has' : Contents) (ks : List Key) (n : ℕ)
-    → ((o t : ℕ) → phase ≡ Moving o t → (q : Key) → is_named q ks ≡ true → has o q ≡ None → has' o q ≡ None) → AskFine phase has ks n → AskFine phase has' ks n
+    → ((o t : ℕ) → phase ≡ Migrating o t → (q : Key) → is_named q ks ≡ true → has o q ≡ None → has' o q ≡ None) → AskFine phase has ks n → AskFine phase has' ks n
 ask_kept (Closed o) has has' ks n same h = h
-ask_kept (Opening o t) has has' ks n same h = h
-ask_kept (Moving o t) has has' ks n same h = λ p q e. same o t refl q e (h p q e)
+ask_kept (Importing o t) has has' ks n same h = h
+ask_kept (Migrating o t) has has' ks n same h = λ p q e. same o t refl q e (h p q e)
 ask_kept (Drained o t) has has' ks n same h = h
-ask_kept (Half o t) has has' ks n same h = h
-ask_kept (Telling o t told) has has' ks n same h = h
+ask_kept (TargetTold o t) has has' ks n same h = h
+ask_kept (SourceTold o t told) has has' ks n same h = h
 
 pub marks_same : (n goal s : ℕ) (own own' : ℕ → ℕ) (goes goes' comes comes' : ℕ → Option ℕ) (rest : List PlanCommand)
     → (ok : Marks n goal s own goes comes rest) → ((m : ℕ) → own' m ≡ own m) → ((m : ℕ) → goes' m ≡ goes m) → ((m : ℕ) → comes' m ≡ comes m)
@@ -317,11 +317,11 @@ marks_same n goal s own own' goes goes' comes comes' rest ok a b c = (
 
 pub emptied_same : (s : ℕ) (phase : Phase) (has has' : Contents) → ((m : ℕ) (k : Key) → slot_of k ≡ s → has' m k ≡ has m k) → Emptied s phase has → Emptied s phase has'
 emptied_same s (Closed o) has has' same h = h
-emptied_same s (Opening o t) has has' same h = h
-emptied_same s (Moving o t) has has' same h = h
+emptied_same s (Importing o t) has has' same h = h
+emptied_same s (Migrating o t) has has' same h = h
 emptied_same s (Drained o t) has has' same h = λ k e. same o k e ∙ h k e
-emptied_same s (Half o t) has has' same h = λ k e. same o k e ∙ h k e
-emptied_same s (Telling o t left) has has' same h = h
+emptied_same s (TargetTold o t) has has' same h = λ k e. same o k e ∙ h k e
+emptied_same s (SourceTold o t left) has has' same h = h
 
 -- nothing of the slot changes
 pub data_same : (port s : ℕ) (phase : Phase) (has has' : Contents) (past past' : List Event) → Data port s phase has past

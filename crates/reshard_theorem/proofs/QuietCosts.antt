@@ -13,8 +13,7 @@ use Rattle.cluster_admin.specs.declared.admin.AdminReply.{AdminReply}
 use Rattle.cluster_admin.specs.declared.admin.AdminReply.TheVariants as answers
 use Rattle.cluster_world.specs.Worlds.{World, node_at, owner, migrating, importing, held}
 use Rattle.cluster_admin.specs.declared.admin.AdminCommand.{AdminCommand}
-use Rattle.cluster_admin.specs.declared.admin.AdminCommand.TheVariants.{Importing, Migrating, SetNode, Stable, KeysIn}
-use Rattle.cluster_admin.specs.declared.admin.AdminCommand.TheVariants.{Migrate}
+use Rattle.cluster_admin.specs.declared.admin.AdminCommand.TheVariants as command
 use Rattle.cluster_world.specs.Commanding.{admin_reply}
 use Rattle.cluster_world.specs.Steps.{after, Run}
 use Rattle.cluster_world.specs.Servers.{MayReply, ServerRun}
@@ -33,7 +32,7 @@ use Rattle.reshard_theorem.specs.Counts.{counts_after, counts, first_count, firs
 use Rattle.reshard_theorem.specs.DrivenRuns.{IsDrivenRun, by_order}
 use Rattle.reshard_theorem.specs.QuietRuns.{NoClients, AreClosed, quiet_cost, QuietCost, StaysBelowQuietCost}
 use Rattle.reshard_theorem.specs.Starts.{Reshard, Starts}
-use Rattle.reshard_theorem.proofs.Phases.{Phase, Closed, Opening, Moving, Drained, Half, Telling, CountOk, may_hold}
+use Rattle.reshard_theorem.proofs.Phases.{Phase, Closed, Importing, Migrating, Drained, TargetTold, SourceTold, CountOk, may_hold}
 use Rattle.reshard_theorem.proofs.Base.{Base, Inv}
 use Rattle.reshard_theorem.proofs.Admins.{AdminGood, slot_at}
 use Rattle.reshard_theorem.proofs.Begins.{start}
@@ -131,31 +130,31 @@ node_small store w m s split = count_le store (node_at w m).held s (λ k i none.
 
 -- the call is the first command of the plan
 marked_first : (plan : List PlanCommand) (listed : Option (List Key)) (r s m : ℕ) (told : AdminReply) (rest : List PlanCommand) (listed' : Option (List Key))
-    → Spells (remaining plan listed) (called r (Migrating s m) told) (remaining rest listed') → (later : List PlanCommand) × (plan ≡ planned.Migrating s m r ∷ later)
+    → Spells (remaining plan listed) (called r (command.Migrating s m) told) (remaining rest listed') → (later : List PlanCommand) × (plan ≡ planned.Migrating s m r ∷ later)
 marked_first [] listed r s m told rest listed' h = absurd h
 marked_first (planned.Importing t x at ∷ plan) None r s m told rest listed' h = by h.1
   where
-    by : Migrating s m ≡ Importing t x → (later : List PlanCommand) × (planned.Importing t x at ∷ plan ≡ planned.Migrating s m r ∷ later)
+    by : command.Migrating s m ≡ command.Importing t x → (later : List PlanCommand) × (planned.Importing t x at ∷ plan ≡ planned.Migrating s m r ∷ later)
     by e = cc
 marked_first (planned.Migrating t x at ∷ plan) None r s m told rest listed' h = (plan, by h.0 h.1)
   where
-    by : r ≡ at → Migrating s m ≡ Migrating t x → planned.Migrating t x at ∷ plan ≡ planned.Migrating s m r ∷ plan
+    by : r ≡ at → command.Migrating s m ≡ command.Migrating t x → planned.Migrating t x at ∷ plan ≡ planned.Migrating s m r ∷ plan
     by e f = cc
 marked_first (planned.SetNode t x at ∷ plan) None r s m told rest listed' h = by h.1
   where
-    by : Migrating s m ≡ SetNode t x → (later : List PlanCommand) × (planned.SetNode t x at ∷ plan ≡ planned.Migrating s m r ∷ later)
+    by : command.Migrating s m ≡ command.SetNode t x → (later : List PlanCommand) × (planned.SetNode t x at ∷ plan ≡ planned.Migrating s m r ∷ later)
     by e = cc
 marked_first (planned.Stable t at ∷ plan) None r s m told rest listed' h = by h.1
   where
-    by : Migrating s m ≡ Stable t → (later : List PlanCommand) × (planned.Stable t at ∷ plan ≡ planned.Migrating s m r ∷ later)
+    by : command.Migrating s m ≡ command.Stable t → (later : List PlanCommand) × (planned.Stable t at ∷ plan ≡ planned.Migrating s m r ∷ later)
     by e = cc
 marked_first (planned.Drain t x y b ∷ plan) None r s m told rest listed' h = by h.1
   where
-    by : Migrating s m ≡ KeysIn t b → (later : List PlanCommand) × (planned.Drain t x y b ∷ plan ≡ planned.Migrating s m r ∷ later)
+    by : command.Migrating s m ≡ command.KeysIn t b → (later : List PlanCommand) × (planned.Drain t x y b ∷ plan ≡ planned.Migrating s m r ∷ later)
     by e = cc
 marked_first (planned.Drain t x y b ∷ plan) (Some ks) r s m told rest listed' h = by h.1
   where
-    by : Migrating s m ≡ Migrate ks y → (later : List PlanCommand) × (planned.Drain t x y b ∷ plan ≡ planned.Migrating s m r ∷ later)
+    by : command.Migrating s m ≡ command.Migrate ks y → (later : List PlanCommand) × (planned.Drain t x y b ∷ plan ≡ planned.Migrating s m r ∷ later)
     by e = cc
 marked_first (planned.Importing t x at ∷ plan) (Some ks) r s m told rest listed' h = absurd h
 marked_first (planned.Migrating t x at ∷ plan) (Some ks) r s m told rest listed' h = absurd h
@@ -177,7 +176,7 @@ module _ (n : ℕ) (goal : ℕ → ℕ) (store : Store) where
       let at = slot_at n goal w later (planned.Migrating s m r) listed inv.base in
       let turn = sent n (goal s) s (λ x. owner w x s) (λ x. owner w x s) (λ x. migrating w x s) (λ x. migrating w x s) (λ x. importing w x s) (λ x. importing w x s) (part later s) m r at.0 in
       let o : ℕ = turn.0 in
-      let is : (inv.base.marks s).phase ≡ Opening o m = sym at.1 ∙ turn.1.was in
+      let is : (inv.base.marks s).phase ≡ Importing o m = sym at.1 ∙ turn.1.was in
       let place : (x : ℕ) (k : Key) → slot_of k ≡ s → eqb x o ≡ false → held w x k ≡ None = λ x k i e.
       (inv.lies s).place x k i (subst (λ p. may_hold p x ≡ false) (sym is) e) in
       let here : (k : Key) → slot_of k ≡ s → get (node_at w r).held k ≡ get store k = λ k i.
@@ -189,7 +188,7 @@ module _ (n : ℕ) (goal : ℕ → ℕ) (store : Store) where
     AllHave κ = (s : ℕ) → AllByRecursion (R s) (κ s)
 
     marked : (w : World) (past : List Event) (plan rest : List PlanCommand) (listed listed' : Option (List Key)) (r s m : ℕ) (κ : Counts)
-        → Inv n goal w past plan listed store → Spells (remaining plan listed) (called r (Migrating s m) answers.Ok) (remaining rest listed') → AllHave κ → AllHave (counts_after κ w (Admin r (Migrating s m) answers.Ok))
+        → Inv n goal w past plan listed store → Spells (remaining plan listed) (called r (command.Migrating s m) answers.Ok) (remaining rest listed') → AllHave κ → AllHave (counts_after κ w (Admin r (command.Migrating s m) answers.Ok))
     marked w past plan rest listed listed' r s m κ inv h all t =
         let first = marked_first plan listed r s m answers.Ok rest listed' h in
         let new : ℕ = length (keys_of (node_at w r).held s) in
@@ -202,15 +201,15 @@ module _ (n : ℕ) (goal : ℕ → ℕ) (store : Store) where
 
     counted : (w : World) (past : List Event) (plan rest : List PlanCommand) (listed listed' : Option (List Key)) (r : ℕ) (c : AdminCommand) (told : AdminReply) (κ : Counts)
         → Inv n goal w past plan listed store → Spells (remaining plan listed) (called r c told) (remaining rest listed') → AllHave κ → AllHave (counts_after κ w (Admin r c told))
-    counted w past plan rest listed listed' r (Migrating s m) answers.Ok κ inv h all = marked w past plan rest listed listed' r s m κ inv h all
-    counted w past plan rest listed listed' r (Migrating s m) answers.NoKey κ inv h all = all
-    counted w past plan rest listed listed' r (Migrating s m) (answers.Keys ks) κ inv h all = all
-    counted w past plan rest listed listed' r (Migrating s m) (answers.Refused fault) κ inv h all = all
-    counted w past plan rest listed listed' r (Importing s m) told κ inv h all = all
-    counted w past plan rest listed listed' r (SetNode s m) told κ inv h all = all
-    counted w past plan rest listed listed' r (Stable s) told κ inv h all = all
-    counted w past plan rest listed listed' r (KeysIn s k) told κ inv h all = all
-    counted w past plan rest listed listed' r (Migrate ks m) told κ inv h all = all
+    counted w past plan rest listed listed' r (command.Migrating s m) answers.Ok κ inv h all = marked w past plan rest listed listed' r s m κ inv h all
+    counted w past plan rest listed listed' r (command.Migrating s m) answers.NoKey κ inv h all = all
+    counted w past plan rest listed listed' r (command.Migrating s m) (answers.Keys ks) κ inv h all = all
+    counted w past plan rest listed listed' r (command.Migrating s m) (answers.Refused fault) κ inv h all = all
+    counted w past plan rest listed listed' r (command.Importing s m) told κ inv h all = all
+    counted w past plan rest listed listed' r (command.SetNode s m) told κ inv h all = all
+    counted w past plan rest listed listed' r (command.Stable s) told κ inv h all = all
+    counted w past plan rest listed listed' r (command.KeysIn s k) told κ inv h all = all
+    counted w past plan rest listed listed' r (command.Migrate ks m) told κ inv h all = all
 
     run_all : (es : List Event) (κ : Counts) (w last : World) (past : List Event) (plan rest : List PlanCommand) (listed listed' : Option (List Key)) → Inv n goal w past plan listed store
         → ServerRun w es last → Spelled (remaining plan listed) (calls es) (remaining rest listed') → NoClients es → AllHave κ → AllHave (counts κ w es)

@@ -19,7 +19,7 @@ use Rattle.reshard_theorem.specs.QuietRuns.{NoClients, IsQuietReshard}
 use Rattle.reshard_theorem.specs.ServerRuns.{QuietServers}
 use Rattle.plan_semantics.specs.Costs.{cost, none_passed, plan_cost}
 use Rattle.reshard_theorem.specs.Counts.{counts, first_count, first_counts}
-use Rattle.reshard_theorem.proofs.Phases.{Phase, Closed, Opening, Moving, Drained, Half, Telling, Rest, Fresh}
+use Rattle.reshard_theorem.proofs.Phases.{Phase, Closed, Importing, Migrating, Drained, TargetTold, SourceTold, Rest, Fresh}
 use Rattle.reshard_theorem.proofs.Base.{Inv}
 use Rattle.reshard_theorem.proofs.Begins.{start}
 use Rattle.reshard_theorem.proofs.Spending.{count, first_ok}
@@ -45,11 +45,11 @@ quiet_served (Admin n c r ∷ es) q = quiet_served es q
 module _ (n goal s : ℕ) (w : World) where
   first_fresh : (q : Phase) (rest : List PlanCommand) → Rest n goal s q rest → Fresh (first_count w rest) 0 (count w s) q
   first_fresh (Closed o) rest l = tt
-  first_fresh (Opening o t) rest l = tt
-  first_fresh (Moving o t) rest l = subst (λ x. Fresh (first_count w x) 0 (count w s) (Moving o t)) (sym l.is) refl
+  first_fresh (Importing o t) rest l = tt
+  first_fresh (Migrating o t) rest l = subst (λ x. Fresh (first_count w x) 0 (count w s) (Migrating o t)) (sym l.is) refl
   first_fresh (Drained o t) rest l = tt
-  first_fresh (Half o t) rest l = tt
-  first_fresh (Telling o t left) rest l = tt
+  first_fresh (TargetTold o t) rest l = tt
+  first_fresh (SourceTold o t left) rest l = tt
 
 module _ (reshard : Reshard) (events : List Event) (last : World)
     (starts : Starts reshard) (run : ServerRun reshard.first events last) (whole : Unrolls reshard.plan (calls events)) (quiet : NoClients events) where

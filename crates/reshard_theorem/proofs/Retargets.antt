@@ -14,8 +14,7 @@ use Rattle.cluster_world.specs.Worlds.{World, verdict, owner, migrating, importi
 use Rattle.cluster_world.specs.Steps.{after}
 use Rattle.cluster_world.specs.Servers.{ServerRun}
 use Rattle.cluster_admin.specs.declared.admin.AdminCommand.{AdminCommand}
-use Rattle.cluster_admin.specs.declared.admin.AdminCommand.TheVariants.{Importing, Migrating, SetNode, Stable, KeysIn}
-use Rattle.cluster_admin.specs.declared.admin.AdminCommand.TheVariants.{Migrate}
+use Rattle.cluster_admin.specs.declared.admin.AdminCommand.TheVariants as command
 use Rattle.cluster_world.specs.Commanding.{admin_after}
 use Rattle.cluster_world.specs.declared.event.Event.{Event}
 use Rattle.cluster_world.specs.declared.event.Event.TheVariants.{Client, Look, Admin}
@@ -32,7 +31,7 @@ use Rattle.reshard_theorem.specs.Reimports.{NoneReimported}
 use Rattle.reshard_theorem.specs.ServerRuns.{AsksStandAtServers, IsDrivenServerRun}
 use Rattle.reshard_theorem.specs.Starts.{Reshard, Starts}
 use Rattle.reshard_theorem.proofs.Base.{Base, Inv}
-use Rattle.reshard_theorem.proofs.Phases.{Phase, Closed, Opening, Moving, Drained, Half, Telling, goes_in, none_cond, More, Rest}
+use Rattle.reshard_theorem.proofs.Phases.{Phase, Closed, Importing, Migrating, Drained, TargetTold, SourceTold, goes_in, none_cond, More, Rest}
 use Rattle.reshard_theorem.proofs.Begins.{start}
 use Rattle.reshard_theorem.proofs.Clients.{client_base}
 use Rattle.reshard_theorem.proofs.Gains.{Turned, turned}
@@ -82,15 +81,15 @@ module _ (s : ℕ) where
 
     next_apart : (q : Phase) → Rest n goal s q (c ∷ rest) → AreApart (c ∷ rest) → AreApart rest
     next_apart (Closed o) l h = next_legs o l.goes_on.legs l.goes_on.is h
-    next_apart (Opening o t) (inl l) h = by cc
+    next_apart (Importing o t) (inl l) h = by cc
       where
         by : rest ≡ planned.Drain s o t l.batch ∷ planned.SetNode s t t ∷ planned.SetNode s t o ∷ (tell s t l.others ++ l.more) → AreApart rest
         by p = subst AreApart (sym p) (subst AreApart l.is h)
-    next_apart (Opening o t) (inr l) h = by cc
+    next_apart (Importing o t) (inr l) h = by cc
       where
         by : rest ≡ l.more → AreApart rest
         by p = subst AreApart (sym p) (legs_apart o t l.goes_on.legs l.more l.goes_on.is (subst AreApart l.is h))
-    next_apart (Moving o t) l h = by cc
+    next_apart (Migrating o t) l h = by cc
       where
         by : rest ≡ planned.SetNode s t t ∷ planned.SetNode s t o ∷ (tell s t l.others ++ l.more) → AreApart rest
         by p = subst AreApart (sym p) (subst AreApart l.is h)
@@ -98,12 +97,12 @@ module _ (s : ℕ) where
       where
         by : rest ≡ planned.SetNode s t o ∷ (tell s t l.others ++ l.more) → AreApart rest
         by p = subst AreApart (sym p) (subst AreApart l.is h)
-    next_apart (Half o t) l h = by cc
+    next_apart (TargetTold o t) l h = by cc
       where
         by : rest ≡ tell s t l.others ++ l.more → AreApart rest
         by p = subst AreApart (sym p) (told_apart t t l.others l.goes_on.legs l.more l.goes_on.is (subst AreApart l.is h))
-    next_apart (Telling o t []) l h = absurd (l.some refl)
-    next_apart (Telling o t (m ∷ left)) l h = by cc
+    next_apart (SourceTold o t []) l h = absurd (l.some refl)
+    next_apart (SourceTold o t (m ∷ left)) l h = by cc
       where
         by : rest ≡ tell s t left ++ l.more → AreApart rest
         by p = subst AreApart (sym p) (told_apart t t left l.goes_on.legs l.more l.goes_on.is (subst AreApart l.is h))
@@ -118,23 +117,23 @@ some_is false u v e = cc
 named_target : (n goal s : ℕ) (q : Phase) (x m : ℕ) (rest : List PlanCommand) → Rest n goal s q rest → goes_in q x ≡ Some m
     → AreApart rest → among m (importings rest) ≡ false
 named_target n goal s (Closed o) x m rest l e h = cc
-named_target n goal s (Opening o t) x m rest l e h = cc
-named_target n goal s (Moving o t) x m rest l e h =
+named_target n goal s (Importing o t) x m rest l e h = cc
+named_target n goal s (Migrating o t) x m rest l e h =
     subst (λ y. among y (importings rest) ≡ false) (some_is (eqb x o) t m e) (subst (λ y. among t (importings y) ≡ false) (sym l.is) (subst AreApart l.is h).0)
 named_target n goal s (Drained o t) x m rest l e h =
     subst (λ y. among y (importings rest) ≡ false) (some_is (eqb x o) t m e) (subst (λ y. among t (importings y) ≡ false) (sym l.is) (subst AreApart l.is h).0)
-named_target n goal s (Half o t) x m rest l e h =
+named_target n goal s (TargetTold o t) x m rest l e h =
     subst (λ y. among y (importings rest) ≡ false) (some_is (eqb x o) t m e) (subst (λ y. among t (importings y) ≡ false) (sym l.is) (subst AreApart l.is h).0)
-named_target n goal s (Telling o t left) x m rest l e h = cc
+named_target n goal s (SourceTold o t left) x m rest l e h = cc
 
 -- and a node of the cluster
 named_below : (n goal s : ℕ) (q : Phase) (x m : ℕ) (rest : List PlanCommand) → Rest n goal s q rest → goes_in q x ≡ Some m → m < n
 named_below n goal s (Closed o) x m rest l e = cc
-named_below n goal s (Opening o t) x m rest l e = cc
-named_below n goal s (Moving o t) x m rest l e = subst (λ y. y < n) (some_is (eqb x o) t m e) l.ends.target_below
+named_below n goal s (Importing o t) x m rest l e = cc
+named_below n goal s (Migrating o t) x m rest l e = subst (λ y. y < n) (some_is (eqb x o) t m e) l.ends.target_below
 named_below n goal s (Drained o t) x m rest l e = subst (λ y. y < n) (some_is (eqb x o) t m e) l.ends.target_below
-named_below n goal s (Half o t) x m rest l e = subst (λ y. y < n) (some_is (eqb x o) t m e) l.ends.target_below
-named_below n goal s (Telling o t left) x m rest l e = cc
+named_below n goal s (TargetTold o t) x m rest l e = subst (λ y. y < n) (some_is (eqb x o) t m e) l.ends.target_below
+named_below n goal s (SourceTold o t left) x m rest l e = cc
 
 -- ---- what a call leaves
 
@@ -184,7 +183,7 @@ module _ (s m : ℕ) where
   ]
 
   not_imported : (plan : List PlanCommand) (listed : Option (List Key)) (r t x : ℕ) (told : AdminReply) (rest : List PlanCommand) (listed' : Option (List Key))
-      → Spells (remaining plan listed) (called r (Importing t x) told) (remaining rest listed') → among m (importings (part plan s)) ≡ false → r ≡ m → t ≡ s → ⊥
+      → Spells (remaining plan listed) (called r (command.Importing t x) told) (remaining rest listed') → among m (importings (part plan s)) ≡ false → r ≡ m → t ≡ s → ⊥
   not_imported [] listed r t x told rest listed' h none e f = h
   not_imported (planned.Importing u y at ∷ plan) None r t x told rest listed' h none e f = by cc
     where
@@ -195,23 +194,23 @@ module _ (s m : ℕ) where
           true≢false (sym (eq-eqb m at (sym e ∙ h.0)) ∙ (or_parts (eqb m at) (among m (importings (part plan s))) q).0)
   not_imported (planned.Migrating u y at ∷ plan) None r t x told rest listed' h none e f = by h.1
     where
-      by : Importing t x ≡ Migrating u y → ⊥
+      by : command.Importing t x ≡ command.Migrating u y → ⊥
       by g = cc
   not_imported (planned.SetNode u y at ∷ plan) None r t x told rest listed' h none e f = by h.1
     where
-      by : Importing t x ≡ SetNode u y → ⊥
+      by : command.Importing t x ≡ command.SetNode u y → ⊥
       by g = cc
   not_imported (planned.Stable u at ∷ plan) None r t x told rest listed' h none e f = by h.1
     where
-      by : Importing t x ≡ Stable u → ⊥
+      by : command.Importing t x ≡ command.Stable u → ⊥
       by g = cc
   not_imported (planned.Drain u y z b ∷ plan) None r t x told rest listed' h none e f = by h.1
     where
-      by : Importing t x ≡ KeysIn u b → ⊥
+      by : command.Importing t x ≡ command.KeysIn u b → ⊥
       by g = cc
   not_imported (planned.Drain u y z b ∷ plan) (Some ks) r t x told rest listed' h none e f = by h.1
     where
-      by : Importing t x ≡ Migrate ks z → ⊥
+      by : command.Importing t x ≡ command.Migrate ks z → ⊥
       by g = cc
   not_imported (planned.Importing u y at ∷ plan) (Some ks) r t x told rest listed' h none e f = h
   not_imported (planned.Migrating u y at ∷ plan) (Some ks) r t x told rest listed' h none e f = h
@@ -220,15 +219,15 @@ module _ (s m : ℕ) where
 
   no_import : (plan : List PlanCommand) (listed : Option (List Key)) (r : ℕ) (c : AdminCommand) (told : AdminReply) (rest : List PlanCommand) (listed' : Option (List Key))
       → Spells (remaining plan listed) (called r c told) (remaining rest listed') → among m (importings (part plan s)) ≡ false → IsNoImport s m (Admin r c told)
-  no_import plan listed r (Importing t x) reply.Ok rest listed' h none = λ e f. not_imported plan listed r t x reply.Ok rest listed' h none e f
-  no_import plan listed r (Importing t x) reply.NoKey rest listed' h none = tt
-  no_import plan listed r (Importing t x) (reply.Keys ks) rest listed' h none = tt
-  no_import plan listed r (Importing t x) (reply.Refused fault) rest listed' h none = tt
-  no_import plan listed r (Migrating t x) told rest listed' h none = tt
-  no_import plan listed r (SetNode t x) told rest listed' h none = tt
-  no_import plan listed r (Stable t) told rest listed' h none = tt
-  no_import plan listed r (KeysIn t count) told rest listed' h none = tt
-  no_import plan listed r (Migrate ks x) told rest listed' h none = tt
+  no_import plan listed r (command.Importing t x) reply.Ok rest listed' h none = λ e f. not_imported plan listed r t x reply.Ok rest listed' h none e f
+  no_import plan listed r (command.Importing t x) reply.NoKey rest listed' h none = tt
+  no_import plan listed r (command.Importing t x) (reply.Keys ks) rest listed' h none = tt
+  no_import plan listed r (command.Importing t x) (reply.Refused fault) rest listed' h none = tt
+  no_import plan listed r (command.Migrating t x) told rest listed' h none = tt
+  no_import plan listed r (command.SetNode t x) told rest listed' h none = tt
+  no_import plan listed r (command.Stable t) told rest listed' h none = tt
+  no_import plan listed r (command.KeysIn t count) told rest listed' h none = tt
+  no_import plan listed r (command.Migrate ks x) told rest listed' h none = tt
 
   never_imports : (es : List Event) (plan rest : List PlanCommand) (listed listed' : Option (List Key)) → Spelled (remaining plan listed) (calls es) (remaining rest listed')
       → among m (importings (part plan s)) ≡ false → AllByRecursion (IsNoImport s m) es

@@ -9,8 +9,7 @@ use Rattle.slot_keyspace.specs.Listing.{keys_of}
 use Rattle.cluster_node.specs.Administration.{reply_if_accepted, reply_or}
 use Rattle.cluster_admin.specs.declared.admin.AdminFault.{AdminFault}
 use Rattle.cluster_admin.specs.declared.admin.AdminCommand.{AdminCommand}
-use Rattle.cluster_admin.specs.declared.admin.AdminCommand.TheVariants.{Importing, Migrating, SetNode, Stable, KeysIn}
-use Rattle.cluster_admin.specs.declared.admin.AdminCommand.TheVariants.{Migrate}
+use Rattle.cluster_admin.specs.declared.admin.AdminCommand.TheVariants as command
 use Rattle.cluster_admin.specs.declared.admin.AdminReply.{AdminReply}
 use Rattle.cluster_admin.specs.declared.admin.AdminReply.TheVariants as answers
 use Rattle.cluster_world.specs.Worlds.{World, node_at, owner, migrating, held}
@@ -30,7 +29,7 @@ use Rattle.std.proofs.lemmas.Bool.{cases_lt}
 use Rattle.plan_semantics.specs.Plans.{Leg, Move, Try, legs_of}
 use Rattle.plan_semantics.specs.Costs.{rounds, Counts, one_more, cost, none_passed}
 use Rattle.reshard_theorem.specs.Counts.{counts_after, counts, first_count, first_counts}
-use Rattle.reshard_theorem.proofs.Phases.{Phase, Closed, Opening, Moving, Drained, Half, Telling, own_in, goes_in, Rest, CountOk}
+use Rattle.reshard_theorem.proofs.Phases.{Phase, Closed, Importing, Migrating, Drained, TargetTold, SourceTold, own_in, goes_in, Rest, CountOk}
 use Rattle.reshard_theorem.proofs.Base.{Base, Stays}
 use Rattle.reshard_theorem.proofs.Admins.{Calm, Batch, NewCount, drain_turn, import_step, send_step, list_none_step, list_some_step, migrate_step, tell_step, stable_step, passed_on}
 use Rattle.reshard_theorem.proofs.Whole.{after_admin}
@@ -103,23 +102,23 @@ module _ (n : ℕ) (goal : ℕ → ℕ) (whole : List PlanCommand) where
   due_le p κ w (planned.Stable s at ∷ rest) b ok = omega arith
   due_le p κ w (planned.Drain s o t d ∷ rest) b ok =
       let turn = drain_turn n goal w rest s o t d None b w in
-      let ok' : CountOk (κ s) (p s) (count w s) (Moving o t) = subst (λ q. CountOk (κ s) (p s) (count w s) q) (sym turn.1 ∙ turn.2.was) (ok s) in
+      let ok' : CountOk (κ s) (p s) (count w s) (Migrating o t) = subst (λ q. CountOk (κ s) (p s) (count w s) q) (sym turn.1 ∙ turn.2.was) (ok s) in
       let g : rounds d (count w s o) ≤ rounds d (slice_index (κ s) (p s)) = rounds_grow d (count w s o) (slice_index (κ s) (p s)) ok'.1 in
       omega arith
 
   -- ---- clients
 
-  pub count_kept : (ks : List ℕ) (i : ℕ) (h h' : ℕ → ℕ) (phase : Phase) → ((o t : ℕ) → phase ≡ Moving o t → h' o ≤ h o) → CountOk ks i h phase → CountOk ks i h' phase
+  pub count_kept : (ks : List ℕ) (i : ℕ) (h h' : ℕ → ℕ) (phase : Phase) → ((o t : ℕ) → phase ≡ Migrating o t → h' o ≤ h o) → CountOk ks i h phase → CountOk ks i h' phase
   count_kept ks i h h' (Closed o) le g = g
-  count_kept ks i h h' (Opening o t) le g = g
-  count_kept ks i h h' (Moving o t) le g = let l : h' o ≤ h o = le o t refl in let m : h o ≤ slice_index ks i = g.1 in (g.0, omega arith)
+  count_kept ks i h h' (Importing o t) le g = g
+  count_kept ks i h h' (Migrating o t) le g = let l : h' o ≤ h o = le o t refl in let m : h o ≤ slice_index ks i = g.1 in (g.0, omega arith)
   count_kept ks i h h' (Drained o t) le g = g
-  count_kept ks i h h' (Half o t) le g = g
-  count_kept ks i h h' (Telling o t left) le g = g
+  count_kept ks i h h' (TargetTold o t) le g = g
+  count_kept ks i h h' (SourceTold o t left) le g = g
 
-  pub source_facts : (w : World) (rest : List PlanCommand) (listed : Option (List Key)) (b : Base n goal w rest listed) (s o t : ℕ) → (b.marks s).phase ≡ Moving o t → (owner w o s ≡ o) × (migrating w o s ≢ None)
+  pub source_facts : (w : World) (rest : List PlanCommand) (listed : Option (List Key)) (b : Base n goal w rest listed) (s o t : ℕ) → (b.marks s).phase ≡ Migrating o t → (owner w o s ≡ o) × (migrating w o s ≢ None)
   source_facts w rest listed b s o t e =
-      let left : Rest n (goal s) s (Moving o t) (part rest s) = subst (λ p. Rest n (goal s) s p (part rest s)) e (b.marks s).left in (
+      let left : Rest n (goal s) s (Migrating o t) (part rest s) = subst (λ p. Rest n (goal s) s p (part rest s)) e (b.marks s).left in (
         (b.marks s).owners o left.ends.source_below ∙ ap (λ p. own_in p o) e,
         λ none. some_none t (sym (cond-true (eqb o o) (Some t) None (eq-eqb o o refl)) ∙ sym (ap (λ p. goes_in p o) e) ∙ sym ((b.marks s).going o) ∙ none),
       )
@@ -139,16 +138,16 @@ module _ (n : ℕ) (goal : ℕ → ℕ) (whole : List PlanCommand) where
     paid = let p = c.paid in let l : due c.passed κ next rest listed ≤ due c.passed κ w rest listed = due_less rest listed c.base less' in omega arith;
   }
     where
-      gain : (s o t : ℕ) → (c.base.marks s).phase ≡ Moving o t → (k : Key) → slot_of k ≡ s → held w o k ≡ None → held next o k ≡ None
+      gain : (s o t : ℕ) → (c.base.marks s).phase ≡ Migrating o t → (k : Key) → slot_of k ≡ s → held w o k ≡ None → held next o k ≡ None
       gain s o t e k i h = let f = source_facts w rest listed c.base s o t e in gains o s k f.0 f.1 i h
 
-      less : (s o t : ℕ) → (c.base.marks s).phase ≡ Moving o t → count next s o ≤ count w s o
+      less : (s o t : ℕ) → (c.base.marks s).phase ≡ Migrating o t → count next s o ≤ count w s o
       less s o t e = count_le (node_at w o).held (node_at next o).held s (gain s o t e)
 
-      less' : (s o t : ℕ) → (c.base.marks s).phase ≡ Moving o t → (k : Key) → slot_of k ≡ s → held w o k ≡ None → held next o k ≡ None
+      less' : (s o t : ℕ) → (c.base.marks s).phase ≡ Migrating o t → (k : Key) → slot_of k ≡ s → held w o k ≡ None → held next o k ≡ None
       less' = gain
 
-      due_less : (rest : List PlanCommand) (listed : Option (List Key)) (b : Base n goal w rest listed) → ((s o t : ℕ) → (b.marks s).phase ≡ Moving o t → (k : Key) → slot_of k ≡ s → held w o k ≡ None → held next o k ≡ None) → due c.passed κ next rest listed ≤ due c.passed κ w rest listed
+      due_less : (rest : List PlanCommand) (listed : Option (List Key)) (b : Base n goal w rest listed) → ((s o t : ℕ) → (b.marks s).phase ≡ Migrating o t → (k : Key) → slot_of k ≡ s → held w o k ≡ None → held next o k ≡ None) → due c.passed κ next rest listed ≤ due c.passed κ w rest listed
       due_less [] listed b g = omega arith
       due_less (planned.Importing s m at ∷ rest) listed b g = omega arith
       due_less (planned.Migrating s m at ∷ rest) listed b g = omega arith
@@ -215,55 +214,55 @@ module _ (n : ℕ) (goal : ℕ → ℕ) (whole : List PlanCommand) where
       let e : cd.behind κ ≤ cd.behind κ' = cd.grows κ κ' grow in
       omega (arith, owed)))
 
-  import_counted : (κ : Counts) (w : World) (plan : List PlanCommand) (spent s m at : ℕ) (reply : AdminReply) → Counted κ w (planned.Importing s m at ∷ plan) None spent → SpentStep κ w at (Importing s m) reply plan None spent
-  import_counted κ w plan spent s m at reply c = inl (setslot_counted κ κ w plan spent at s (planned.Importing s m at) (Importing s m) c (λ p x. refl) refl (import_step n goal w plan s m at c.base) refl (λ t e. refl) (grows_same κ))
+  import_counted : (κ : Counts) (w : World) (plan : List PlanCommand) (spent s m at : ℕ) (reply : AdminReply) → Counted κ w (planned.Importing s m at ∷ plan) None spent → SpentStep κ w at (command.Importing s m) reply plan None spent
+  import_counted κ w plan spent s m at reply c = inl (setslot_counted κ κ w plan spent at s (planned.Importing s m at) (command.Importing s m) c (λ p x. refl) refl (import_step n goal w plan s m at c.base) refl (λ t e. refl) (grows_same κ))
 
-  tell_counted : (κ : Counts) (w : World) (plan : List PlanCommand) (spent s m at : ℕ) (reply : AdminReply) → Counted κ w (planned.SetNode s m at ∷ plan) None spent → SpentStep κ w at (SetNode s m) reply plan None spent
-  tell_counted κ w plan spent s m at reply c = inl (setslot_counted κ κ w plan spent at s (planned.SetNode s m at) (SetNode s m) c (λ p x. refl) refl (tell_step n goal w plan s m at c.base) refl (λ t e. refl) (grows_same κ))
+  tell_counted : (κ : Counts) (w : World) (plan : List PlanCommand) (spent s m at : ℕ) (reply : AdminReply) → Counted κ w (planned.SetNode s m at ∷ plan) None spent → SpentStep κ w at (command.SetNode s m) reply plan None spent
+  tell_counted κ w plan spent s m at reply c = inl (setslot_counted κ κ w plan spent at s (planned.SetNode s m at) (command.SetNode s m) c (λ p x. refl) refl (tell_step n goal w plan s m at c.base) refl (λ t e. refl) (grows_same κ))
 
-  stable_counted : (κ : Counts) (w : World) (plan : List PlanCommand) (spent s at : ℕ) (reply : AdminReply) → Counted κ w (planned.Stable s at ∷ plan) None spent → SpentStep κ w at (Stable s) reply plan None spent
-  stable_counted κ w plan spent s at reply c = inl (setslot_counted κ κ w plan spent at s (planned.Stable s at) (Stable s) c (λ p x. refl) refl (stable_step n goal w plan s at c.base) refl (λ t e. refl) (grows_same κ))
+  stable_counted : (κ : Counts) (w : World) (plan : List PlanCommand) (spent s at : ℕ) (reply : AdminReply) → Counted κ w (planned.Stable s at ∷ plan) None spent → SpentStep κ w at (command.Stable s) reply plan None spent
+  stable_counted κ w plan spent s at reply c = inl (setslot_counted κ κ w plan spent at s (planned.Stable s at) (command.Stable s) c (λ p x. refl) refl (stable_step n goal w plan s at c.base) refl (λ t e. refl) (grows_same κ))
 
-  pub fine_reply : (w : World) (r s t : ℕ) → admin_fault w r (Migrating s t) ≡ None → admin_reply w r (Migrating s t) ≡ answers.Ok
+  pub fine_reply : (w : World) (r s t : ℕ) → admin_fault w r (command.Migrating s t) ≡ None → admin_reply w r (command.Migrating s t) ≡ answers.Ok
   unfolding admin_reply reply_if_accepted
   fine_reply w r s t e = ap (λ o. reply_or o answers.Ok) e
 
-  send_counted : (κ : Counts) (w : World) (plan : List PlanCommand) (spent s m at : ℕ) → Counted κ w (planned.Migrating s m at ∷ plan) None spent → SpentStep κ w at (Migrating s m) answers.Ok plan None spent
+  send_counted : (κ : Counts) (w : World) (plan : List PlanCommand) (spent s m at : ℕ) → Counted κ w (planned.Migrating s m at ∷ plan) None spent → SpentStep κ w at (command.Migrating s m) answers.Ok plan None spent
   send_counted κ w plan spent s m at c =
-      let κ' : Counts = counts_after κ w (Admin at (Migrating s m) answers.Ok) in
-      inl (setslot_counted κ κ' w plan spent at s (planned.Migrating s m at) (Migrating s m) c (λ p x. refl) refl (send_step n goal w plan s m at c.base) (cond-true _ _ _ (eq-eqb s s refl)) (λ t e. cond-false _ _ _ (ne_eqb t s e))
+      let κ' : Counts = counts_after κ w (Admin at (command.Migrating s m) answers.Ok) in
+      inl (setslot_counted κ κ' w plan spent at s (planned.Migrating s m at) (command.Migrating s m) c (λ p x. refl) refl (send_step n goal w plan s m at c.base) (cond-true _ _ _ (eq-eqb s s refl)) (λ t e. cond-false _ _ _ (ne_eqb t s e))
       (λ t i. grown (eqb t s) t i))
     where
       grown : (b : Bool) (t i : ℕ) → slice_index (κ t) i ≤ slice_index (cond b (κ t ++ count w s at ∷ []) (κ t)) i
       grown true t i = grow_append (κ t) (count w s at) i
       grown false t i = omega arith
 
-  drained_counted : (κ : Counts) (w : World) (plan : List PlanCommand) (spent s o t b : ℕ) (reply : AdminReply) → Counted κ w (planned.Drain s o t b ∷ plan) None spent → ListsSlot (node_at w o).held s b [] → SpentStep κ w o (KeysIn s b) reply plan None spent
+  drained_counted : (κ : Counts) (w : World) (plan : List PlanCommand) (spent s o t b : ℕ) (reply : AdminReply) → Counted κ w (planned.Drain s o t b ∷ plan) None spent → ListsSlot (node_at w o).held s b [] → SpentStep κ w o (command.KeysIn s b) reply plan None spent
   drained_counted κ w plan spent s o t b reply c none =
       let calm = list_none_step n goal w plan s o t b c.base none in
-      inl (granted_step κ w o (KeysIn s b) plan None (1 + spent) calm.no_fault
-      (calm_counted κ κ w (planned.Drain s o t b ∷ plan) plan None None spent o s (KeysIn s b) true c calm refl (λ t e. refl) (one_more c.passed s) (one_here c.passed s) (λ t e. one_other c.passed s t e)
+      inl (granted_step κ w o (command.KeysIn s b) plan None (1 + spent) calm.no_fault
+      (calm_counted κ κ w (planned.Drain s o t b ∷ plan) plan None None spent o s (command.KeysIn s b) true c calm refl (λ t e. refl) (one_more c.passed s) (one_here c.passed s) (λ t e. one_other c.passed s t e)
       (λ x. c.behind x + (2 * rounds b (slice_index (x s) (c.passed s)) + 1))
       (λ x. let e : cost none_passed x whole ≡ c.behind x + ((2 * rounds b (slice_index (x s) (c.passed s)) + 1) + cost (one_more c.passed s) x plan) = c.splits x in omega arith)
       (λ x y g. let e : c.behind x ≤ c.behind y = c.grows x y g in let f : rounds b (slice_index (x s) (c.passed s)) ≤ rounds b (slice_index (y s) (c.passed s)) = rounds_grow b _ _ (g s (c.passed s)) in omega arith)
-      (λ slots. let d : due (one_more c.passed s) κ (effect w o (KeysIn s b)) plan None ≤ cost (one_more c.passed s) κ plan = due_le (one_more c.passed s) κ (effect w o (KeysIn s b)) plan calm.next.0 slots in
+      (λ slots. let d : due (one_more c.passed s) κ (effect w o (command.KeysIn s b)) plan None ≤ cost (one_more c.passed s) κ plan = due_le (one_more c.passed s) κ (effect w o (command.KeysIn s b)) plan calm.next.0 slots in
       let p : spent + ((2 * rounds b (count w s o) + 1) + cost (one_more c.passed s) κ plan) ≤ c.behind κ + ((2 * rounds b (slice_index (κ s) (c.passed s)) + 1) + cost (one_more c.passed s) κ plan) = c.paid in
       omega arith)))
 
   some_counted : (κ : Counts) (w : World) (plan : List PlanCommand) (spent s o t b : ℕ) (k : Key) (ks : List Key) (reply : AdminReply) → Counted κ w (planned.Drain s o t b ∷ plan) None spent → ListsSlot (node_at w o).held s b (k ∷ ks)
-      → SpentStep κ w o (KeysIn s b) reply (planned.Drain s o t b ∷ plan) (Some (k ∷ ks)) spent
+      → SpentStep κ w o (command.KeysIn s b) reply (planned.Drain s o t b ∷ plan) (Some (k ∷ ks)) spent
   unfolding effect
   some_counted κ w plan spent s o t b k ks reply c some =
       let calm = list_some_step n goal w plan s o t b k ks c.base some in
       let turn = drain_turn n goal w plan s o t b None c.base w in
       let left : length (left_of (node_at w o).held s (k ∷ ks)) ≡ count w s o - b = left_exact (node_at w o).held s b (k ∷ ks) some in
       let step : rounds b (length (left_of (node_at w o).held s (k ∷ ks))) + 1 ≤ rounds b (count w s o) = rounds_step b (count w s o) _ turn.2.some (some_by_listing (node_at w o).held s b k ks some) (omega arith) in
-      inl (granted_step κ w o (KeysIn s b) (planned.Drain s o t b ∷ plan) (Some (k ∷ ks)) (1 + spent) calm.no_fault
-      (calm_counted κ κ w (planned.Drain s o t b ∷ plan) (planned.Drain s o t b ∷ plan) None (Some (k ∷ ks)) spent o s (KeysIn s b) false c calm refl (λ t e. refl) c.passed refl (λ t e. refl) c.behind c.splits c.grows
+      inl (granted_step κ w o (command.KeysIn s b) (planned.Drain s o t b ∷ plan) (Some (k ∷ ks)) (1 + spent) calm.no_fault
+      (calm_counted κ κ w (planned.Drain s o t b ∷ plan) (planned.Drain s o t b ∷ plan) None (Some (k ∷ ks)) spent o s (command.KeysIn s b) false c calm refl (λ t e. refl) c.passed refl (λ t e. refl) c.behind c.splits c.grows
       (λ slots. let p = c.paid in pays step p)))
     where
       pays : rounds b (length (left_of (node_at w o).held s (k ∷ ks))) + 1 ≤ rounds b (count w s o) → spent + ((2 * rounds b (count w s o) + 1) + cost (one_more c.passed s) κ plan) ≤ c.behind κ + cost c.passed κ (planned.Drain s o t b ∷ plan)
-          → 1 + spent + due c.passed κ (effect w o (KeysIn s b)) (planned.Drain s o t b ∷ plan) (Some (k ∷ ks)) ≤ c.behind κ + cost c.passed κ (planned.Drain s o t b ∷ plan)
+          → 1 + spent + due c.passed κ (effect w o (command.KeysIn s b)) (planned.Drain s o t b ∷ plan) (Some (k ∷ ks)) ≤ c.behind κ + cost c.passed κ (planned.Drain s o t b ∷ plan)
       pays step p = omega arith
 
   pub refused_by : (w : World) (r : ℕ) (c : AdminCommand) (reply : AdminReply) → reply ≡ admin_reply w r c → is_some (admin_fault w r c) ≡ true → is_refused reply ≡ true
@@ -274,19 +273,19 @@ module _ (n : ℕ) (goal : ℕ → ℕ) (whole : List PlanCommand) where
       by None g = absurd (true≢false (sym g))
       by (Some k) g = refl
 
-  batch_counted : (κ : Counts) (w : World) (plan : List PlanCommand) (spent s o t b : ℕ) (ks : List Key) (reply : AdminReply) → reply ≡ admin_reply w o (Migrate ks t) → Counted κ w (planned.Drain s o t b ∷ plan) (Some ks) spent
-      → SpentStep κ w o (Migrate ks t) reply (planned.Drain s o t b ∷ plan) None spent
-  batch_counted κ w plan spent s o t b ks reply e c = elim (cases_Bool (is_some (admin_fault w o (Migrate ks t)))) [
+  batch_counted : (κ : Counts) (w : World) (plan : List PlanCommand) (spent s o t b : ℕ) (ks : List Key) (reply : AdminReply) → reply ≡ admin_reply w o (command.Migrate ks t) → Counted κ w (planned.Drain s o t b ∷ plan) (Some ks) spent
+      → SpentStep κ w o (command.Migrate ks t) reply (planned.Drain s o t b ∷ plan) None spent
+  batch_counted κ w plan spent s o t b ks reply e c = elim (cases_Bool (is_some (admin_fault w o (command.Migrate ks t)))) [
     | inl u ↦ inr (
-      refused_by w o (Migrate ks t) reply e u,
+      refused_by w o (command.Migrate ks t) reply e u,
       (let d : cost none_passed κ whole ≡ c.behind κ + cost c.passed κ (planned.Drain s o t b ∷ plan) = c.splits κ in let p = c.paid in omega arith),
     )
-    | inr u ↦ inl (granted_step κ w o (Migrate ks t) (planned.Drain s o t b ∷ plan) None (1 + spent) (none_fault _ u) (record {
+    | inr u ↦ inl (granted_step κ w o (command.Migrate ks t) (planned.Drain s o t b ∷ plan) None (1 + spent) (none_fault _ u) (record {
       base = batch.next.0;
       passed = c.passed;
       slots = λ v. elim (cases_eq v s) [
         | inl f ↦ subst (λ x. CountOk (κ x) (c.passed x) (count next x) (batch.next.0.marks x).phase) (sym f) (subst (λ p. CountOk (κ s) (c.passed s) (count next s) p) (sym batch.next.2)
-            (let before : CountOk (κ s) (c.passed s) (count w s) (Moving o t) = subst (λ p. CountOk (κ s) (c.passed s) (count w s) p) batch.was (c.slots s) in (before.0, less before.1)))
+            (let before : CountOk (κ s) (c.passed s) (count w s) (Migrating o t) = subst (λ p. CountOk (κ s) (c.passed s) (count w s) p) batch.was (c.slots s) in (before.0, less before.1)))
         | inr f ↦ subst (λ p. CountOk (κ v) (c.passed v) (count next v) p) (sym (batch.next.1 v f))
             (count_kept (κ v) (c.passed v) (count w v) (count next v) (c.base.marks v).phase (λ x y g. count_le (node_at w x).held (node_at next x).held v (λ k i h. batch.others x k (λ j. f (sym i ∙ j)) ∙ h)) (c.slots v))
       ];
@@ -301,7 +300,7 @@ module _ (n : ℕ) (goal : ℕ → ℕ) (whole : List PlanCommand) where
       batch = migrate_step n goal w plan s o t b ks c.base
 
       next : World
-      next = effect w o (Migrate ks t)
+      next = effect w o (command.Migrate ks t)
 
       gone : (x : Bool) (v : Option Value) → v ≡ None → cond x None v ≡ None
       gone true v p = refl
@@ -318,21 +317,21 @@ module _ (n : ℕ) (goal : ℕ → ℕ) (whole : List PlanCommand) where
   spelled_counted : (κ : Counts) (w : World) (plan : List PlanCommand) (listed : Option (List Key)) (r : ℕ) (c : AdminCommand) (reply : AdminReply) (rest : List PlanCommand) (listed' : Option (List Key)) (spent : ℕ)
       → Counted κ w plan listed spent → MayReply w r c reply → Spells (remaining plan listed) (called r c reply) (remaining rest listed') → SpentStep κ w r c reply rest listed' spent
   spelled_counted κ w [] listed r c reply rest listed' spent cd e h = absurd h
-  spelled_counted κ w (planned.Importing s m at ∷ plan) None r c reply rest listed' spent cd e h = spent_over κ w reply spent r at c (Importing s m) rest plan listed' None h.0 h.1 h.2 h.3 (import_counted κ w plan spent s m at reply cd)
+  spelled_counted κ w (planned.Importing s m at ∷ plan) None r c reply rest listed' spent cd e h = spent_over κ w reply spent r at c (command.Importing s m) rest plan listed' None h.0 h.1 h.2 h.3 (import_counted κ w plan spent s m at reply cd)
   spelled_counted κ w (planned.Importing s m at ∷ plan) (Some ks) r c reply rest listed' spent cd e h = absurd h
-  spelled_counted κ w (planned.Migrating s m at ∷ plan) None r c reply rest listed' spent cd e h = spent_over κ w reply spent r at c (Migrating s m) rest plan listed' None h.0 h.1 h.2 h.3
-      (subst (λ a. SpentStep κ w at (Migrating s m) a plan None spent) (sym (subst₂ (λ x y. MayReply w x y reply) h.0 h.1 e ∙ fine_reply w at s m (send_step n goal w plan s m at cd.base).no_fault)) (send_counted κ w plan spent s m at cd))
+  spelled_counted κ w (planned.Migrating s m at ∷ plan) None r c reply rest listed' spent cd e h = spent_over κ w reply spent r at c (command.Migrating s m) rest plan listed' None h.0 h.1 h.2 h.3
+      (subst (λ a. SpentStep κ w at (command.Migrating s m) a plan None spent) (sym (subst₂ (λ x y. MayReply w x y reply) h.0 h.1 e ∙ fine_reply w at s m (send_step n goal w plan s m at cd.base).no_fault)) (send_counted κ w plan spent s m at cd))
   spelled_counted κ w (planned.Migrating s m at ∷ plan) (Some ks) r c reply rest listed' spent cd e h = absurd h
-  spelled_counted κ w (planned.SetNode s m at ∷ plan) None r c reply rest listed' spent cd e h = spent_over κ w reply spent r at c (SetNode s m) rest plan listed' None h.0 h.1 h.2 h.3 (tell_counted κ w plan spent s m at reply cd)
+  spelled_counted κ w (planned.SetNode s m at ∷ plan) None r c reply rest listed' spent cd e h = spent_over κ w reply spent r at c (command.SetNode s m) rest plan listed' None h.0 h.1 h.2 h.3 (tell_counted κ w plan spent s m at reply cd)
   spelled_counted κ w (planned.SetNode s m at ∷ plan) (Some ks) r c reply rest listed' spent cd e h = absurd h
-  spelled_counted κ w (planned.Stable s at ∷ plan) None r c reply rest listed' spent cd e h = spent_over κ w reply spent r at c (Stable s) rest plan listed' None h.0 h.1 h.2 h.3 (stable_counted κ w plan spent s at reply cd)
+  spelled_counted κ w (planned.Stable s at ∷ plan) None r c reply rest listed' spent cd e h = spent_over κ w reply spent r at c (command.Stable s) rest plan listed' None h.0 h.1 h.2 h.3 (stable_counted κ w plan spent s at reply cd)
   spelled_counted κ w (planned.Stable s at ∷ plan) (Some ks) r c reply rest listed' spent cd e h = absurd h
   spelled_counted κ w (planned.Drain s m t b ∷ plan) None r c reply rest listed' spent cd e h = elim h.2 [
-    | inl u ↦ spent_over κ w reply spent r m c (KeysIn s b) rest plan listed' None h.0 h.1 u.1 u.2 (drained_counted κ w plan spent s m t b reply cd (listing_keys w r m s b c reply [] h.0 h.1 e u.0))
-    | inr u ↦ spent_over κ w reply spent r m c (KeysIn s b) rest (planned.Drain s m t b ∷ plan) listed' (Some (u.0 ∷ u.1)) h.0 h.1 u.3 u.4
+    | inl u ↦ spent_over κ w reply spent r m c (command.KeysIn s b) rest plan listed' None h.0 h.1 u.1 u.2 (drained_counted κ w plan spent s m t b reply cd (listing_keys w r m s b c reply [] h.0 h.1 e u.0))
+    | inr u ↦ spent_over κ w reply spent r m c (command.KeysIn s b) rest (planned.Drain s m t b ∷ plan) listed' (Some (u.0 ∷ u.1)) h.0 h.1 u.3 u.4
         (some_counted κ w plan spent s m t b u.0 u.1 reply cd (listing_keys w r m s b c reply (u.0 ∷ u.1) h.0 h.1 e u.2))
   ]
-  spelled_counted κ w (planned.Drain s m t b ∷ plan) (Some ks) r c reply rest listed' spent cd e h = spent_over κ w reply spent r m c (Migrate ks t) rest (planned.Drain s m t b ∷ plan) listed' None h.0 h.1 h.2 h.3
+  spelled_counted κ w (planned.Drain s m t b ∷ plan) (Some ks) r c reply rest listed' spent cd e h = spent_over κ w reply spent r m c (command.Migrate ks t) rest (planned.Drain s m t b ∷ plan) listed' None h.0 h.1 h.2 h.3
       (batch_counted κ w plan spent s m t b ks reply (subst₂ (λ x y. MayReply w x y reply) h.0 h.1 e) cd)
 
   -- where the administrator does not call, nothing is counted
@@ -344,15 +343,15 @@ module _ (n : ℕ) (goal : ℕ → ℕ) (whole : List PlanCommand) where
 
   -- a refused command counts nothing
   refused_counts : (κ : Counts) (w : World) (r : ℕ) (c : AdminCommand) (reply : AdminReply) → is_refused reply ≡ true → counts_after κ w (Admin r c reply) ≡ κ
-  refused_counts κ w r (Migrating s m) answers.Ok e = absurd (true≢false (sym e))
-  refused_counts κ w r (Migrating s m) answers.NoKey e = refl
-  refused_counts κ w r (Migrating s m) (answers.Keys ks) e = refl
-  refused_counts κ w r (Migrating s m) (answers.Refused k) e = refl
-  refused_counts κ w r (Importing s m) reply e = refl
-  refused_counts κ w r (SetNode s m) reply e = refl
-  refused_counts κ w r (Stable s) reply e = refl
-  refused_counts κ w r (KeysIn s m) reply e = refl
-  refused_counts κ w r (Migrate ks m) reply e = refl
+  refused_counts κ w r (command.Migrating s m) answers.Ok e = absurd (true≢false (sym e))
+  refused_counts κ w r (command.Migrating s m) answers.NoKey e = refl
+  refused_counts κ w r (command.Migrating s m) (answers.Keys ks) e = refl
+  refused_counts κ w r (command.Migrating s m) (answers.Refused k) e = refl
+  refused_counts κ w r (command.Importing s m) reply e = refl
+  refused_counts κ w r (command.SetNode s m) reply e = refl
+  refused_counts κ w r (command.Stable s) reply e = refl
+  refused_counts κ w r (command.KeysIn s m) reply e = refl
+  refused_counts κ w r (command.Migrate ks m) reply e = refl
 
   pub run_counted : (es : List Event) (κ : Counts) (w last : World) (plan rest : List PlanCommand) (listed listed' : Option (List Key)) (spent : ℕ) → Counted κ w plan listed spent → ServerRun w es last → Spelled (remaining plan listed) (calls es) (remaining rest listed')
       → StopsAtRefusal (calls es) → length (calls es) + spent ≤ cost none_passed (counts κ w es) whole
@@ -383,13 +382,13 @@ module _ (n goal s : ℕ) (w : World) where
       by [] e = ap (λ x. length (first_count w x)) e
       by (Move t b others ∷ legs) e = ap (λ x. length (first_count w x)) e
       by (Try t ∷ legs) e = ap (λ x. length (first_count w x)) e
-  first_ok (Opening o t) rest (inl l) = ap (λ x. length (first_count w x)) l.is
-  first_ok (Opening o t) rest (inr l) = ap (λ x. length (first_count w x)) l.is
-  first_ok (Moving o t) rest l = subst (λ x. CountOk (first_count w x) 0 (count w s) (Moving o t)) (sym l.is) (refl, omega arith)
+  first_ok (Importing o t) rest (inl l) = ap (λ x. length (first_count w x)) l.is
+  first_ok (Importing o t) rest (inr l) = ap (λ x. length (first_count w x)) l.is
+  first_ok (Migrating o t) rest l = subst (λ x. CountOk (first_count w x) 0 (count w s) (Migrating o t)) (sym l.is) (refl, omega arith)
   first_ok (Drained o t) rest l = ap (λ x. length (first_count w x)) l.is
-  first_ok (Half o t) rest l = ap (λ x. length (first_count w x)) l.is
-  first_ok (Telling o t []) rest l = absurd (l.some refl)
-  first_ok (Telling o t (m ∷ left)) rest l = ap (λ x. length (first_count w x)) l.is
+  first_ok (TargetTold o t) rest l = ap (λ x. length (first_count w x)) l.is
+  first_ok (SourceTold o t []) rest l = absurd (l.some refl)
+  first_ok (SourceTold o t (m ∷ left)) rest l = ap (λ x. length (first_count w x)) l.is
 
 pub within_its_cost : ServersWithinCost
 within_its_cost reshard events last left run =

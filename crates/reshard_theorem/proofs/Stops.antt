@@ -10,68 +10,68 @@ use Rattle.cluster_admin.specs.Phases.{AreTwo, AreOthers, IsPhase, HasPhase, Pha
 use Rattle.cluster_admin.specs.Phases as phase
 use Rattle.cluster_world.specs.Openness.{Open, IsOpenSlot, AskAllows}
 use Rattle.plan_semantics.specs.Plans.{part, AreEnds}
-use Rattle.reshard_theorem.proofs.Phases.{Phase, Closed, Opening, Moving, Drained, Half, Telling, own_in, goes_in, comes_in, may_hold, AskFine, Rest, Marks, Emptied, Data, named_slot}
+use Rattle.reshard_theorem.proofs.Phases.{Phase, Closed, Importing, Migrating, Drained, TargetTold, SourceTold, own_in, goes_in, comes_in, may_hold, AskFine, Rest, Marks, Emptied, Data, named_slot}
 use Rattle.reshard_theorem.proofs.Base.{Base, Inv, MarksIn}
 use Rattle.reshard_theorem.proofs.Turns.{two_of}
 
 -- the phase in which a slot is left
 abbrev pub outer : Phase → phase.Phase
 outer (Closed o) = phase.Closed o
-outer (Opening o t) = phase.Importing o t
-outer (Moving o t) = phase.Migrating o t
+outer (Importing o t) = phase.Importing o t
+outer (Migrating o t) = phase.Migrating o t
 outer (Drained o t) = phase.Migrating o t
-outer (Half o t) = phase.TargetTold o t
-outer (Telling o t left) = phase.SourceTold o t left
+outer (TargetTold o t) = phase.TargetTold o t
+outer (SourceTold o t left) = phase.SourceTold o t left
 
 module _ (n goal s : ℕ) (rest : List PlanCommand) where
   fine : (q : Phase) → Rest n goal s q rest → IsPhase n (outer q)
   fine (Closed o) l = l.owner_below
-  fine (Opening o t) (inl l) = two_of n o t l.others l.ends
-  fine (Opening o t) (inr l) = l.two
-  fine (Moving o t) l = two_of n o t l.others l.ends
+  fine (Importing o t) (inl l) = two_of n o t l.others l.ends
+  fine (Importing o t) (inr l) = l.two
+  fine (Migrating o t) l = two_of n o t l.others l.ends
   fine (Drained o t) l = two_of n o t l.others l.ends
-  fine (Half o t) l = two_of n o t l.others l.ends
-  fine (Telling o t left) l = (l.two, l.others, l.some)
+  fine (TargetTold o t) l = two_of n o t l.others l.ends
+  fine (SourceTold o t left) l = (l.two, l.others, l.some)
 
   owns : (q : Phase) (m : ℕ) → own_in q m ≡ owner_in (outer q) m
   owns (Closed o) m = refl
-  owns (Opening o t) m = refl
-  owns (Moving o t) m = refl
+  owns (Importing o t) m = refl
+  owns (Migrating o t) m = refl
   owns (Drained o t) m = refl
-  owns (Half o t) m = refl
-  owns (Telling o t left) m = refl
+  owns (TargetTold o t) m = refl
+  owns (SourceTold o t left) m = refl
 
   goes : (q : Phase) (m : ℕ) → goes_in q m ≡ phase.goes_in (outer q) m
   goes (Closed o) m = refl
-  goes (Opening o t) m = refl
-  goes (Moving o t) m = refl
+  goes (Importing o t) m = refl
+  goes (Migrating o t) m = refl
   goes (Drained o t) m = refl
-  goes (Half o t) m = refl
-  goes (Telling o t left) m = refl
+  goes (TargetTold o t) m = refl
+  goes (SourceTold o t left) m = refl
 
   comes : (q : Phase) (m : ℕ) → comes_in q m ≡ phase.comes_in (outer q) m
   comes (Closed o) m = refl
-  comes (Opening o t) m = refl
-  comes (Moving o t) m = refl
+  comes (Importing o t) m = refl
+  comes (Migrating o t) m = refl
   comes (Drained o t) m = refl
-  comes (Half o t) m = refl
-  comes (Telling o t left) m = refl
+  comes (TargetTold o t) m = refl
+  comes (SourceTold o t left) m = refl
 
   lie : (q : Phase) (m : ℕ) → may_lie (outer q) m ≡ false → may_hold q m ≡ false
   lie (Closed o) m e = e
-  lie (Opening o t) m e = e
-  lie (Moving o t) m e = e
+  lie (Importing o t) m e = e
+  lie (Migrating o t) m e = e
   lie (Drained o t) m e = (or_parts (eqb m o) (eqb m t) e).1
-  lie (Half o t) m e = e
-  lie (Telling o t left) m e = e
+  lie (TargetTold o t) m e = e
+  lie (SourceTold o t left) m e = e
 
   allows : (q : Phase) (w : World) (ks : List Key) (m : ℕ) → ((k : Key) → is_named k ks ≡ true → slot_of k ≡ s) → Emptied s q (held w) → AskFine q (held w) ks m → AskAllows (outer q) w ks m
   allows (Closed o) w ks m of emptied a = tt
-  allows (Opening o t) w ks m of emptied a = a
-  allows (Moving o t) w ks m of emptied a = a
+  allows (Importing o t) w ks m of emptied a = a
+  allows (Migrating o t) w ks m of emptied a = a
   allows (Drained o t) w ks m of emptied a = λ p k i. emptied k (of k i)
-  allows (Half o t) w ks m of emptied a = tt
-  allows (Telling o t left) w ks m of emptied a = tt
+  allows (TargetTold o t) w ks m of emptied a = tt
+  allows (SourceTold o t left) w ks m of emptied a = tt
 
 module _ (n : ℕ) (goal : ℕ → ℕ) (w : World) (past : List Event) (plan : List PlanCommand) (listed : Option (List Key)) (store : Store) (inv : Inv n goal w past plan listed store) where
   -- the phase of a slot where the run stops

@@ -11,7 +11,7 @@ use Rattle.cluster_admin.specs.Phases.{AreTwo, AreOthers}
 use Rattle.plan_semantics.specs.Plans.{among, IsDistinct, AreEnds, tell, Leg, Move, Try, legs_of, AreLegs}
 use Rattle.plan_semantics.proofs.OnePhase.{not_among}
 use Rattle.reshard_theorem.proofs.Split.{Contents}
-use Rattle.reshard_theorem.proofs.Phases.{Phase, Closed, Opening, Moving, Drained, Half, Telling, telling, own_in, goes_in, comes_in, may_hold, AskFine, Rest, Marks, Emptied, CountOk, Fresh, More, leg_end, ClosedRest, OpeningRest, BackRest, MovingRest, DrainedRest, HalfRest, TellingRest}
+use Rattle.reshard_theorem.proofs.Phases.{Phase, Closed, Importing, Migrating, Drained, TargetTold, SourceTold, telling, own_in, goes_in, comes_in, may_hold, AskFine, Rest, Marks, Emptied, CountOk, Fresh, More, leg_end, ClosedRest, ImportingRest, BackRest, MigratingRest, DrainedRest, TargetToldRest, SourceToldRest}
 
 both_none : (b : Bool) → cond {A = Option ℕ} b None None ≡ None
 both_none true = refl
@@ -71,9 +71,9 @@ module _ (n goal s : ℕ) (own own' : ℕ → ℕ) (goes goes' comes comes' : �
     pub slot_below : s < 16384
     pub owned : (m : ℕ) → m < n → own m ≡ o
     pub next : ((m : ℕ) → own' m ≡ own m) → ((m : ℕ) → goes' m ≡ goes m) → ((m : ℕ) → comes' m ≡ cond (eqb m t) (Some o) (comes m))
-        → (new : Marks n goal s own' goes' comes' rest) × (new.phase ≡ Opening o t)
+        → (new : Marks n goal s own' goes' comes' rest) × (new.phase ≡ Importing o t)
 
-  opened_by : (o t : ℕ) (ok : Marks n goal s own goes comes (planned.Importing s o t ∷ rest)) → ok.phase ≡ Closed o → s < 16384 → AreTwo n o t → Rest n goal s (Opening o t) rest → Opened o t ok.phase
+  opened_by : (o t : ℕ) (ok : Marks n goal s own goes comes (planned.Importing s o t ∷ rest)) → ok.phase ≡ Closed o → s < 16384 → AreTwo n o t → Rest n goal s (Importing o t) rest → Opened o t ok.phase
   opened_by o t ok at below two left = record {
     was = at;
     apart = two.apart;
@@ -83,7 +83,7 @@ module _ (n goal s : ℕ) (own own' : ℕ → ℕ) (goes goes' comes comes' : �
     owned = λ m h. ok.owners m h ∙ ap (λ f. own_in f m) at;
     next = λ a b c. (
       record {
-        phase = Opening o t;
+        phase = Importing o t;
         left = left;
         owners = λ m h. a m ∙ ok.owners m h ∙ ap (λ f. own_in f m) at;
         going = λ m. b m ∙ ok.going m ∙ ap (λ f. goes_in f m) at;
@@ -99,8 +99,8 @@ module _ (n goal s : ℕ) (own own' : ℕ → ℕ) (goes goes' comes comes' : �
   open_leg o t ok x v at below (Move to b others ∷ legs) are is end =
       let source : o ≡ x = cc in
       let target : t ≡ to = cc in
-      let left : OpeningRest n goal s x to rest = record { below = below; batch = b; others = others; some = are.0; ends = are.1; more = legs_of s to legs; goes_on = record { version = v; legs = legs; are = are.2; is = refl; end = end }; is = cc } in
-      opened_by o t ok (at ∙ ap Closed (sym source)) below (subst₂ (λ a c. AreTwo n a c) (sym source) (sym target) (two_of n x to others are.1)) (inl (subst₂ (λ a c. OpeningRest n goal s a c rest) (sym source) (sym target) left))
+      let left : ImportingRest n goal s x to rest = record { below = below; batch = b; others = others; some = are.0; ends = are.1; more = legs_of s to legs; goes_on = record { version = v; legs = legs; are = are.2; is = refl; end = end }; is = cc } in
+      opened_by o t ok (at ∙ ap Closed (sym source)) below (subst₂ (λ a c. AreTwo n a c) (sym source) (sym target) (two_of n x to others are.1)) (inl (subst₂ (λ a c. ImportingRest n goal s a c rest) (sym source) (sym target) left))
   open_leg o t ok x v at below (Try to ∷ legs) are is end =
       let source : o ≡ x = cc in
       let target : t ≡ to = cc in
@@ -115,13 +115,13 @@ module _ (n goal s : ℕ) (own own' : ℕ → ℕ) (goes goes' comes comes' : �
 
       by : (p : Phase) → ok.phase ≡ p → Rest n goal s p (planned.Importing s o t ∷ rest) → Opened o t ok.phase
       by (Closed x) e l = open_leg o t ok x l.goes_on.version e (l.below some) l.goes_on.legs l.goes_on.are l.goes_on.is l.goes_on.end
-      by (Opening a b) e (inl l) = cc (l.is)
-      by (Opening a b) e (inr l) = cc (l.is)
-      by (Moving a b) e l = cc (l.is)
+      by (Importing a b) e (inl l) = cc (l.is)
+      by (Importing a b) e (inr l) = cc (l.is)
+      by (Migrating a b) e l = cc (l.is)
       by (Drained a b) e l = cc (l.is)
-      by (Half a b) e l = cc (l.is)
-      by (Telling a b []) e l = absurd (l.some refl)
-      by (Telling a b (m ∷ told)) e l = cc (l.is)
+      by (TargetTold a b) e l = cc (l.is)
+      by (SourceTold a b []) e l = absurd (l.some refl)
+      by (SourceTold a b (m ∷ told)) e l = cc (l.is)
 
   -- ---- no leg begins with another command
 
@@ -131,20 +131,20 @@ module _ (n goal s : ℕ) (own own' : ℕ → ℕ) (goes goes' comes comes' : �
   not_leg x v c other (Try to ∷ legs) is = other to cc
 
   pub record Sent (o t at : ℕ) (before : Phase) : Type 0 where
-    pub was : before ≡ Opening o t
+    pub was : before ≡ Importing o t
     pub at_source : at ≡ o
     pub apart : o ≢ t
     pub target_below : t < n
     pub source_below : o < n
     pub owned : own o ≡ o
     pub next : ((m : ℕ) → own' m ≡ own m) → ((m : ℕ) → goes' m ≡ cond (eqb m o) (Some t) (goes m)) → ((m : ℕ) → comes' m ≡ comes m)
-        → (new : Marks n goal s own' goes' comes' rest) × (new.phase ≡ Moving o t)
+        → (new : Marks n goal s own' goes' comes' rest) × (new.phase ≡ Migrating o t)
 
-  sent_opening : (t at a b : ℕ) (ok : Marks n goal s own goes comes (planned.Migrating s t at ∷ rest)) → ok.phase ≡ Opening a b → OpeningRest n goal s a b (planned.Migrating s t at ∷ rest) → (o : ℕ) × Sent o t at ok.phase
+  sent_opening : (t at a b : ℕ) (ok : Marks n goal s own goes comes (planned.Migrating s t at ∷ rest)) → ok.phase ≡ Importing a b → ImportingRest n goal s a b (planned.Migrating s t at ∷ rest) → (o : ℕ) × Sent o t at ok.phase
   sent_opening t at a b ok e l = (
     a,
     record {
-      was = e ∙ ap (Opening a) (sym to);
+      was = e ∙ ap (Importing a) (sym to);
       at_source = here;
       apart = λ u. l.ends.apart (u ∙ to);
       target_below = subst (λ x. x < n) (sym to) l.ends.target_below;
@@ -152,8 +152,8 @@ module _ (n goal s : ℕ) (own own' : ℕ → ℕ) (goes goes' comes comes' : �
       owned = ok.owners a l.ends.source_below ∙ ap (λ f. own_in f a) e;
       next = λ x y z. (
         record {
-          phase = Moving a t;
-          left = subst (λ c. MovingRest n goal s a c rest) (sym to) tail;
+          phase = Migrating a t;
+          left = subst (λ c. MigratingRest n goal s a c rest) (sym to) tail;
           owners = λ m h. x m ∙ ok.owners m h ∙ ap (λ f. own_in f m) e;
           going = λ m. y m ∙ ap (cond (eqb m a) (Some t)) (ok.going m ∙ ap (λ f. goes_in f m) e);
           coming = λ m. z m ∙ ok.coming m ∙ ap (λ f. comes_in f m) e ∙ ap (λ c. cond (eqb m c) (Some a) None) (sym to);
@@ -169,7 +169,7 @@ module _ (n goal s : ℕ) (own own' : ℕ → ℕ) (goes goes' comes comes' : �
       to : t ≡ b
       to = cc (l.is)
 
-      tail : MovingRest n goal s a b rest
+      tail : MigratingRest n goal s a b rest
       tail = record { below = l.below; batch = l.batch; others = l.others; some = l.some; ends = l.ends; more = l.more; goes_on = l.goes_on; is = cc (l.is) }
 
   pub sent : (t at : ℕ) (ok : Marks n goal s own goes comes (planned.Migrating s t at ∷ rest)) → (o : ℕ) × Sent o t at ok.phase
@@ -177,29 +177,29 @@ module _ (n goal s : ℕ) (own own' : ℕ → ℕ) (goes goes' comes comes' : �
     where
       by : (p : Phase) → ok.phase ≡ p → Rest n goal s p (planned.Migrating s t at ∷ rest) → (o : ℕ) × Sent o t at ok.phase
       by (Closed x) e l = absurd (not_leg x 0 (planned.Migrating s t at) (λ u f. cc) l.goes_on.legs l.goes_on.is)
-      by (Opening a b) e (inl l) = sent_opening t at a b ok e l
-      by (Opening a b) e (inr l) = cc (l.is)
-      by (Moving a b) e l = cc (l.is)
+      by (Importing a b) e (inl l) = sent_opening t at a b ok e l
+      by (Importing a b) e (inr l) = cc (l.is)
+      by (Migrating a b) e l = cc (l.is)
       by (Drained a b) e l = cc (l.is)
-      by (Half a b) e l = cc (l.is)
-      by (Telling a b []) e l = absurd (l.some refl)
-      by (Telling a b (m ∷ told)) e l = cc (l.is)
+      by (TargetTold a b) e l = cc (l.is)
+      by (SourceTold a b []) e l = absurd (l.some refl)
+      by (SourceTold a b (m ∷ told)) e l = cc (l.is)
 
   -- ---- a mark that is taken back
 
   pub record Stabled (at : ℕ) (before : Phase) : Type 0 where
     pub source : ℕ
-    pub was : before ≡ Opening source at
+    pub was : before ≡ Importing source at
     pub two : AreTwo n source at
     pub slot_below : s < 16384
     pub no_mark : goes at ≡ None
     pub next : ((m : ℕ) → own' m ≡ own m) → ((m : ℕ) → goes' m ≡ cond (eqb m at) None (goes m)) → ((m : ℕ) → comes' m ≡ cond (eqb m at) None (comes m))
         → (new : Marks n goal s own' goes' comes' rest) × (new.phase ≡ Closed source)
 
-  stabled_opening : (at a b : ℕ) (ok : Marks n goal s own goes comes (planned.Stable s at ∷ rest)) → ok.phase ≡ Opening a b → BackRest n goal s a b (planned.Stable s at ∷ rest) → Stabled at ok.phase
+  stabled_opening : (at a b : ℕ) (ok : Marks n goal s own goes comes (planned.Stable s at ∷ rest)) → ok.phase ≡ Importing a b → BackRest n goal s a b (planned.Stable s at ∷ rest) → Stabled at ok.phase
   stabled_opening at a b ok e l = record {
     source = a;
-    was = e ∙ ap (Opening a) (sym here);
+    was = e ∙ ap (Importing a) (sym here);
     two = subst (λ x. AreTwo n a x) (sym here) l.two;
     slot_below = l.below;
     no_mark = ok.going at ∙ ap (λ f. goes_in f at) e;
@@ -227,18 +227,18 @@ module _ (n goal s : ℕ) (own own' : ℕ → ℕ) (goes goes' comes comes' : �
     where
       by : (p : Phase) → ok.phase ≡ p → Rest n goal s p (planned.Stable s at ∷ rest) → Stabled at ok.phase
       by (Closed x) e l = absurd (not_leg x 0 (planned.Stable s at) (λ u f. cc) l.goes_on.legs l.goes_on.is)
-      by (Opening a b) e (inl l) = cc (l.is)
-      by (Opening a b) e (inr l) = stabled_opening at a b ok e l
-      by (Moving a b) e l = cc (l.is)
+      by (Importing a b) e (inl l) = cc (l.is)
+      by (Importing a b) e (inr l) = stabled_opening at a b ok e l
+      by (Migrating a b) e l = cc (l.is)
       by (Drained a b) e l = cc (l.is)
-      by (Half a b) e l = cc (l.is)
-      by (Telling a b []) e l = absurd (l.some refl)
-      by (Telling a b (m ∷ told)) e l = cc (l.is)
+      by (TargetTold a b) e l = cc (l.is)
+      by (SourceTold a b []) e l = absurd (l.some refl)
+      by (SourceTold a b (m ∷ told)) e l = cc (l.is)
 
   -- ---- the drain
 
   pub record Draining (o t b : ℕ) (before : Phase) : Type 0 where
-    pub was : before ≡ Moving o t
+    pub was : before ≡ Migrating o t
     pub apart : o ≢ t
     pub source_below : o < n
     pub target_below : t < n
@@ -250,7 +250,7 @@ module _ (n goal s : ℕ) (own own' : ℕ → ℕ) (goes goes' comes comes' : �
     pub emptied : ((m : ℕ) → own' m ≡ own m) → ((m : ℕ) → goes' m ≡ goes m) → ((m : ℕ) → comes' m ≡ comes m)
         → (new : Marks n goal s own' goes' comes' rest) × (new.phase ≡ Drained o t)
 
-  draining_moving : (o t b a c : ℕ) (ok : Marks n goal s own goes comes (planned.Drain s o t b ∷ rest)) → ok.phase ≡ Moving a c → MovingRest n goal s a c (planned.Drain s o t b ∷ rest) → Draining o t b ok.phase
+  draining_moving : (o t b a c : ℕ) (ok : Marks n goal s own goes comes (planned.Drain s o t b ∷ rest)) → ok.phase ≡ Migrating a c → MigratingRest n goal s a c (planned.Drain s o t b ∷ rest) → Draining o t b ok.phase
   draining_moving o t b a c ok e' l' = record {
     was = e;
     apart = l.ends.apart;
@@ -278,11 +278,11 @@ module _ (n goal s : ℕ) (own own' : ℕ → ℕ) (goes goes' comes comes' : �
       target : c ≡ t
       target = cc (l'.is)
 
-      e : ok.phase ≡ Moving o t
-      e = subst₂ (λ x y. ok.phase ≡ Moving x y) source target e'
+      e : ok.phase ≡ Migrating o t
+      e = subst₂ (λ x y. ok.phase ≡ Migrating x y) source target e'
 
-      l : MovingRest n goal s o t (planned.Drain s o t b ∷ rest)
-      l = subst₂ (λ x y. MovingRest n goal s x y (planned.Drain s o t b ∷ rest)) source target l'
+      l : MigratingRest n goal s o t (planned.Drain s o t b ∷ rest)
+      l = subst₂ (λ x y. MigratingRest n goal s x y (planned.Drain s o t b ∷ rest)) source target l'
 
       batch : b ≡ l.batch
       batch = cc (l.is)
@@ -292,13 +292,13 @@ module _ (n goal s : ℕ) (own own' : ℕ → ℕ) (goes goes' comes comes' : �
     where
       by : (p : Phase) → ok.phase ≡ p → Rest n goal s p (planned.Drain s o t b ∷ rest) → Draining o t b ok.phase
       by (Closed x) e l = absurd (not_leg x 0 (planned.Drain s o t b) (λ u f. cc) l.goes_on.legs l.goes_on.is)
-      by (Opening a c) e (inl l) = cc (l.is)
-      by (Opening a c) e (inr l) = cc (l.is)
-      by (Moving a c) e l = draining_moving o t b a c ok e l
+      by (Importing a c) e (inl l) = cc (l.is)
+      by (Importing a c) e (inr l) = cc (l.is)
+      by (Migrating a c) e l = draining_moving o t b a c ok e l
       by (Drained a c) e l = cc (l.is)
-      by (Half a c) e l = cc (l.is)
-      by (Telling a c []) e l = absurd (l.some refl)
-      by (Telling a c (m ∷ told)) e l = cc (l.is)
+      by (TargetTold a c) e l = cc (l.is)
+      by (SourceTold a c []) e l = absurd (l.some refl)
+      by (SourceTold a c (m ∷ told)) e l = cc (l.is)
 
   -- ---- telling the new owner
 
@@ -322,7 +322,7 @@ module _ (n goal s : ℕ) (own own' : ℕ → ℕ) (goes goes' comes comes' : �
     at_below = subst (λ x. x < n) (sym here) ends.target_below;
     slot_below = l.below;
     may = λ u v. absurd (v (sym here));
-    later = Half a t;
+    later = TargetTold a t;
     same_place = λ m. ap (λ f. may_hold f m) (sym e);
     free = λ has ks m. tt;
     counted = λ ks i h u. subst (λ f. CountOk ks i h f) e u;
@@ -330,7 +330,7 @@ module _ (n goal s : ℕ) (own own' : ℕ → ℕ) (goes goes' comes comes' : �
     empties = λ has h. subst (λ f. Emptied s f has) e h;
     next = λ x y z. (
       record {
-        phase = Half a t;
+        phase = TargetTold a t;
         left = tail;
         owners = λ m h. x m ∙ (λ i. cond (eqb m (here i)) t ((ok.owners m h ∙ ap (λ f. own_in f m) e) i));
         going = λ m. y m ∙ cond-false _ None (goes m) (and_right (eqb m at) (not (eqb t at)) (ap not (eq-eqb t at (sym here)))) ∙ ok.going m ∙ ap (λ f. goes_in f m) e;
@@ -352,10 +352,10 @@ module _ (n goal s : ℕ) (own own' : ℕ → ℕ) (goes goes' comes comes' : �
       ends : AreEnds n a t l.others
       ends = subst (λ x. AreEnds n a x l.others) (sym to) l.ends
 
-      tail : HalfRest n goal s a t rest
-      tail = subst (λ x. HalfRest n goal s a x rest) (sym to) (record { below = l.below; others = l.others; ends = l.ends; more = l.more; goes_on = l.goes_on; is = cc (l.is) })
+      tail : TargetToldRest n goal s a t rest
+      tail = subst (λ x. TargetToldRest n goal s a x rest) (sym to) (record { below = l.below; others = l.others; ends = l.ends; more = l.more; goes_on = l.goes_on; is = cc (l.is) })
 
-  told_half : (t at a c : ℕ) (ok : Marks n goal s own goes comes (planned.SetNode s t at ∷ rest)) → ok.phase ≡ Half a c → HalfRest n goal s a c (planned.SetNode s t at ∷ rest) → Told t at ok.phase
+  told_half : (t at a c : ℕ) (ok : Marks n goal s own goes comes (planned.SetNode s t at ∷ rest)) → ok.phase ≡ TargetTold a c → TargetToldRest n goal s a c (planned.SetNode s t at ∷ rest) → Told t at ok.phase
   told_half t at a c ok e' l = record {
     target_below = ends.target_below;
     at_below = subst (λ x. x < n) (sym here) ends.source_below;
@@ -385,8 +385,8 @@ module _ (n goal s : ℕ) (own own' : ℕ → ℕ) (goes goes' comes comes' : �
       here : at ≡ a
       here = cc (l.is)
 
-      e : ok.phase ≡ Half a t
-      e = subst (λ x. ok.phase ≡ Half a x) (sym to) e'
+      e : ok.phase ≡ TargetTold a t
+      e = subst (λ x. ok.phase ≡ TargetTold a x) (sym to) e'
 
       ends : AreEnds n a t l.others
       ends = subst (λ x. AreEnds n a x l.others) (sym to) l.ends
@@ -403,7 +403,7 @@ module _ (n goal s : ℕ) (own own' : ℕ → ℕ) (goes goes' comes comes' : �
         ]
       ]
 
-  told_telling : (t at a c m : ℕ) (left : List ℕ) (ok : Marks n goal s own goes comes (planned.SetNode s t at ∷ rest)) → ok.phase ≡ Telling a c (m ∷ left) → TellingRest n goal s a c (m ∷ left) (planned.SetNode s t at ∷ rest) → Told t at ok.phase
+  told_telling : (t at a c m : ℕ) (left : List ℕ) (ok : Marks n goal s own goes comes (planned.SetNode s t at ∷ rest)) → ok.phase ≡ SourceTold a c (m ∷ left) → SourceToldRest n goal s a c (m ∷ left) (planned.SetNode s t at ∷ rest) → Told t at ok.phase
   told_telling t at a c m left ok e' l = record {
     target_below = subst (λ x. x < n) (sym to) l.two.target_below;
     at_below = subst (λ x. x < n) (sym here) l.others.each_other.0.0;
@@ -433,8 +433,8 @@ module _ (n goal s : ℕ) (own own' : ℕ → ℕ) (goes goes' comes comes' : �
       here : at ≡ m
       here = cc (l.is)
 
-      e : ok.phase ≡ Telling a t (m ∷ left)
-      e = subst (λ x. ok.phase ≡ Telling a x (m ∷ left)) (sym to) e'
+      e : ok.phase ≡ SourceTold a t (m ∷ left)
+      e = subst (λ x. ok.phase ≡ SourceTold a x (m ∷ left)) (sym to) e'
 
       tail : rest ≡ tell s t left ++ l.more
       tail = subst (λ x. rest ≡ tell s x left ++ l.more) (sym to) (cc (l.is))
@@ -450,10 +450,10 @@ module _ (n goal s : ℕ) (own own' : ℕ → ℕ) (goes goes' comes comes' : �
     where
       by : (p : Phase) → ok.phase ≡ p → Rest n goal s p (planned.SetNode s t at ∷ rest) → Told t at ok.phase
       by (Closed x) e l = absurd (not_leg x 0 (planned.SetNode s t at) (λ u f. cc) l.goes_on.legs l.goes_on.is)
-      by (Opening a c) e (inl l) = cc (l.is)
-      by (Opening a c) e (inr l) = cc (l.is)
-      by (Moving a c) e l = cc (l.is)
+      by (Importing a c) e (inl l) = cc (l.is)
+      by (Importing a c) e (inr l) = cc (l.is)
+      by (Migrating a c) e l = cc (l.is)
       by (Drained a c) e l = told_drained t at a c ok e l
-      by (Half a c) e l = told_half t at a c ok e l
-      by (Telling a c []) e l = absurd (l.some refl)
-      by (Telling a c (m ∷ left)) e l = told_telling t at a c m left ok e l
+      by (TargetTold a c) e l = told_half t at a c ok e l
+      by (SourceTold a c []) e l = absurd (l.some refl)
+      by (SourceTold a c (m ∷ left)) e l = told_telling t at a c m left ok e l

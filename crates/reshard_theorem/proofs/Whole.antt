@@ -10,8 +10,7 @@ use Rattle.cluster_world.specs.Worlds.{World, migrating, importing, held}
 use Rattle.cluster_node.specs.Nodes.{blank}
 use Rattle.cluster_world.specs.declared.event.Event.{Event}
 use Rattle.cluster_admin.specs.declared.admin.AdminCommand.{AdminCommand}
-use Rattle.cluster_admin.specs.declared.admin.AdminCommand.TheVariants.{Importing, Migrating, SetNode, Stable, KeysIn}
-use Rattle.cluster_admin.specs.declared.admin.AdminCommand.TheVariants.{Migrate}
+use Rattle.cluster_admin.specs.declared.admin.AdminCommand.TheVariants as command
 use Rattle.cluster_admin.specs.declared.admin.AdminReply.{AdminReply}
 use Rattle.cluster_world.specs.Commanding.{admin_fault, effect, admin_after}
 use Rattle.plan_language.specs.declared.plan_command.PlanCommand.{PlanCommand}
@@ -22,7 +21,7 @@ use Rattle.cluster_admin.specs.Phases as phase
 use Rattle.cluster_world.specs.Worlds.{owner}
 use Rattle.plan_semantics.specs.Plans.{IsPart, Closes, last_told, first_owner, Leg, Move, Try, legs_of, tell}
 use Rattle.plan_semantics.specs.Driving.{remaining, called, Spells}
-use Rattle.reshard_theorem.proofs.Phases.{Phase, Closed, Opening, Moving, Drained, Half, Telling, own_in, goes_in, comes_in, may_hold, Rest, leg_end}
+use Rattle.reshard_theorem.proofs.Phases.{Phase, Closed, Importing, Migrating, Drained, TargetTold, SourceTold, own_in, goes_in, comes_in, may_hold, Rest, leg_end}
 use Rattle.reshard_theorem.proofs.Base.{Inv}
 use Rattle.reshard_theorem.proofs.Admins.{AdminGood, calm_good, batch_good, import_step, send_step, list_none_step, list_some_step, migrate_step, tell_step, stable_step}
 use Rattle.reshard_theorem.proofs.Slotwise.{IsClean}
@@ -42,21 +41,21 @@ module _ (n : ℕ) (goal : ℕ → ℕ) where
   pub spelled : (w : World) (past : List Event) (store : Store) (plan : List PlanCommand) (listed : Option (List Key)) (r : ℕ) (c : AdminCommand) (reply : AdminReply) (rest : List PlanCommand) (listed' : Option (List Key))
       → Inv n goal w past plan listed store → MayReply w r c reply → Spells (remaining plan listed) (called r c reply) (remaining rest listed') → AdminGood n goal w past r c reply rest listed' store
   spelled w past store [] listed r c reply rest listed' inv e h = absurd h
-  spelled w past store (planned.Importing s m at ∷ plan) None r c reply rest listed' inv e h = moved_over w past store reply r at c (Importing s m) rest plan listed' None h.0 h.1 h.2 h.3 (calm_good n goal w past (planned.Importing s m at ∷ plan) plan None None store at (Importing s m) reply s false inv (subst₂ (λ x y. MayReply w x y reply) h.0 h.1 e) (import_step n goal w plan s m at inv.base))
+  spelled w past store (planned.Importing s m at ∷ plan) None r c reply rest listed' inv e h = moved_over w past store reply r at c (command.Importing s m) rest plan listed' None h.0 h.1 h.2 h.3 (calm_good n goal w past (planned.Importing s m at ∷ plan) plan None None store at (command.Importing s m) reply s false inv (subst₂ (λ x y. MayReply w x y reply) h.0 h.1 e) (import_step n goal w plan s m at inv.base))
   spelled w past store (planned.Importing s m at ∷ plan) (Some ks) r c reply rest listed' inv e h = absurd h
-  spelled w past store (planned.Migrating s m at ∷ plan) None r c reply rest listed' inv e h = moved_over w past store reply r at c (Migrating s m) rest plan listed' None h.0 h.1 h.2 h.3 (calm_good n goal w past (planned.Migrating s m at ∷ plan) plan None None store at (Migrating s m) reply s false inv (subst₂ (λ x y. MayReply w x y reply) h.0 h.1 e) (send_step n goal w plan s m at inv.base))
+  spelled w past store (planned.Migrating s m at ∷ plan) None r c reply rest listed' inv e h = moved_over w past store reply r at c (command.Migrating s m) rest plan listed' None h.0 h.1 h.2 h.3 (calm_good n goal w past (planned.Migrating s m at ∷ plan) plan None None store at (command.Migrating s m) reply s false inv (subst₂ (λ x y. MayReply w x y reply) h.0 h.1 e) (send_step n goal w plan s m at inv.base))
   spelled w past store (planned.Migrating s m at ∷ plan) (Some ks) r c reply rest listed' inv e h = absurd h
-  spelled w past store (planned.SetNode s m at ∷ plan) None r c reply rest listed' inv e h = moved_over w past store reply r at c (SetNode s m) rest plan listed' None h.0 h.1 h.2 h.3 (calm_good n goal w past (planned.SetNode s m at ∷ plan) plan None None store at (SetNode s m) reply s false inv (subst₂ (λ x y. MayReply w x y reply) h.0 h.1 e) (tell_step n goal w plan s m at inv.base))
+  spelled w past store (planned.SetNode s m at ∷ plan) None r c reply rest listed' inv e h = moved_over w past store reply r at c (command.SetNode s m) rest plan listed' None h.0 h.1 h.2 h.3 (calm_good n goal w past (planned.SetNode s m at ∷ plan) plan None None store at (command.SetNode s m) reply s false inv (subst₂ (λ x y. MayReply w x y reply) h.0 h.1 e) (tell_step n goal w plan s m at inv.base))
   spelled w past store (planned.SetNode s m at ∷ plan) (Some ks) r c reply rest listed' inv e h = absurd h
-  spelled w past store (planned.Stable s at ∷ plan) None r c reply rest listed' inv e h = moved_over w past store reply r at c (Stable s) rest plan listed' None h.0 h.1 h.2 h.3 (calm_good n goal w past (planned.Stable s at ∷ plan) plan None None store at (Stable s) reply s false inv (subst₂ (λ x y. MayReply w x y reply) h.0 h.1 e) (stable_step n goal w plan s at inv.base))
+  spelled w past store (planned.Stable s at ∷ plan) None r c reply rest listed' inv e h = moved_over w past store reply r at c (command.Stable s) rest plan listed' None h.0 h.1 h.2 h.3 (calm_good n goal w past (planned.Stable s at ∷ plan) plan None None store at (command.Stable s) reply s false inv (subst₂ (λ x y. MayReply w x y reply) h.0 h.1 e) (stable_step n goal w plan s at inv.base))
   spelled w past store (planned.Stable s at ∷ plan) (Some ks) r c reply rest listed' inv e h = absurd h
   spelled w past store (planned.Drain s m t b ∷ plan) None r c reply rest listed' inv e h = elim h.2 [
-    | inl u ↦ moved_over w past store reply r m c (KeysIn s b) rest plan listed' None h.0 h.1 u.1 u.2
-        (calm_good n goal w past (planned.Drain s m t b ∷ plan) plan None None store m (KeysIn s b) reply s true inv (subst₂ (λ x y. MayReply w x y reply) h.0 h.1 e) (list_none_step n goal w plan s m t b inv.base (listing_keys w r m s b c reply [] h.0 h.1 e u.0)))
-    | inr u ↦ moved_over w past store reply r m c (KeysIn s b) rest (planned.Drain s m t b ∷ plan) listed' (Some (u.0 ∷ u.1)) h.0 h.1 u.3 u.4
-        (calm_good n goal w past (planned.Drain s m t b ∷ plan) (planned.Drain s m t b ∷ plan) None (Some (u.0 ∷ u.1)) store m (KeysIn s b) reply s false inv (subst₂ (λ x y. MayReply w x y reply) h.0 h.1 e) (list_some_step n goal w plan s m t b u.0 u.1 inv.base (listing_keys w r m s b c reply (u.0 ∷ u.1) h.0 h.1 e u.2)))
+    | inl u ↦ moved_over w past store reply r m c (command.KeysIn s b) rest plan listed' None h.0 h.1 u.1 u.2
+        (calm_good n goal w past (planned.Drain s m t b ∷ plan) plan None None store m (command.KeysIn s b) reply s true inv (subst₂ (λ x y. MayReply w x y reply) h.0 h.1 e) (list_none_step n goal w plan s m t b inv.base (listing_keys w r m s b c reply [] h.0 h.1 e u.0)))
+    | inr u ↦ moved_over w past store reply r m c (command.KeysIn s b) rest (planned.Drain s m t b ∷ plan) listed' (Some (u.0 ∷ u.1)) h.0 h.1 u.3 u.4
+        (calm_good n goal w past (planned.Drain s m t b ∷ plan) (planned.Drain s m t b ∷ plan) None (Some (u.0 ∷ u.1)) store m (command.KeysIn s b) reply s false inv (subst₂ (λ x y. MayReply w x y reply) h.0 h.1 e) (list_some_step n goal w plan s m t b u.0 u.1 inv.base (listing_keys w r m s b c reply (u.0 ∷ u.1) h.0 h.1 e u.2)))
   ]
-  spelled w past store (planned.Drain s m t b ∷ plan) (Some ks) r c reply rest listed' inv e h = moved_over w past store reply r m c (Migrate ks t) rest (planned.Drain s m t b ∷ plan) listed' None h.0 h.1 h.2 h.3 (batch_good n goal w past plan store reply s m t b ks inv (migrate_step n goal w plan s m t b ks inv.base))
+  spelled w past store (planned.Drain s m t b ∷ plan) (Some ks) r c reply rest listed' inv e h = moved_over w past store reply r m c (command.Migrate ks t) rest (planned.Drain s m t b ∷ plan) listed' None h.0 h.1 h.2 h.3 (batch_good n goal w past plan store reply s m t b ks inv (migrate_step n goal w plan s m t b ks inv.base))
 
   pub after_admin : (w : World) (r : ℕ) (c : AdminCommand) → admin_fault w r c ≡ None → admin_after w r c ≡ effect w r c
   unfolding admin_after
@@ -73,10 +72,10 @@ marks_past w m s h = (ap (λ x. get x.migrating s) (get_or_past w.nodes m blank 
 -- the phase of the invariant in which an open slot begins
 abbrev pub inner : phase.Phase → Phase
 inner (phase.Closed o) = Closed o
-inner (phase.Importing o t) = Opening o t
-inner (phase.Migrating o t) = Moving o t
-inner (phase.TargetTold o t) = Half o t
-inner (phase.SourceTold o t left) = Telling o t left
+inner (phase.Importing o t) = Importing o t
+inner (phase.Migrating o t) = Migrating o t
+inner (phase.TargetTold o t) = TargetTold o t
+inner (phase.SourceTold o t left) = SourceTold o t left
 
 -- ---- the owner in the end
 
@@ -124,13 +123,13 @@ at_end n goal s (Closed o) l = closed l.goes_on.legs l.goes_on.is l.goes_on.end
     closed [] is e = record { own = λ m. e; goes = λ m. refl; comes = λ m. refl; place = λ m u. ne_eqb m o (λ v. u (v ∙ e)); below = subst (λ x. x < n) e l.owner_below }
     closed (Move t b others ∷ legs) is e = cc
     closed (Try t ∷ legs) is e = cc
-at_end n goal s (Opening o t) (inl l) = cc (l.is)
-at_end n goal s (Opening o t) (inr l) = cc (l.is)
-at_end n goal s (Moving o t) l = cc (l.is)
+at_end n goal s (Importing o t) (inl l) = cc (l.is)
+at_end n goal s (Importing o t) (inr l) = cc (l.is)
+at_end n goal s (Migrating o t) l = cc (l.is)
 at_end n goal s (Drained o t) l = cc (l.is)
-at_end n goal s (Half o t) l = cc (l.is)
-at_end n goal s (Telling o t []) l = absurd (l.some refl)
-at_end n goal s (Telling o t (m ∷ left)) l = cc (l.is)
+at_end n goal s (TargetTold o t) l = cc (l.is)
+at_end n goal s (SourceTold o t []) l = absurd (l.some refl)
+at_end n goal s (SourceTold o t (m ∷ left)) l = cc (l.is)
 
 pub finished : (n : ℕ) (goal : ℕ → ℕ) (w : World) (past : List Event) (store : Store) → Inv n goal w past [] None store → IsClean w n goal store
 finished n goal w past store inv = record {

@@ -2,7 +2,7 @@
 //! closes them.
 #![tactic(auto)]
 
-mod course;
+mod route;
 mod key_counts;
 mod looking;
 mod opening;
@@ -18,7 +18,7 @@ mod strange;
 mod strange_slot;
 mod strangeness;
 
-pub use course::Course;
+pub use route::Route;
 pub use key_counts::KeyCounts;
 pub use opening::open_survey;
 pub use phase_fault::PhaseFault;

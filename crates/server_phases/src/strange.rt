@@ -5,7 +5,7 @@ ghost use Rattle.server_phases.specs.Strange.{first_coming, first_going, one_goi
 ghost use Rattle.server_phases.specs.Strange.{stray_going, strangeness, two_coming, two_going, two_owners};
 ghost use Rattle.server_phases.specs.Strange.{with_slots};
 
-use crate::course::Course;
+use crate::route::Route;
 use crate::looking::{dissenter, first_coming, first_going, next_coming, next_going};
 use crate::strangeness::Strangeness;
 use cluster_views::ServerSurvey;
@@ -111,7 +111,7 @@ fn stray_with_slots(
     match first_coming(survey, slot) {
         Some((importer, from)) => Strangeness::Crossed {
             owner,
-            course: Course { source, target },
+            route: Route { source, target },
             importer,
             from,
         },

@@ -1,4 +1,4 @@
-use crate::course::Course;
+use crate::route::Route;
 use key_slots::NodeId;
 use std::fmt;
 
@@ -27,11 +27,11 @@ pub enum Strangeness {
         owner: NodeId,
         at: NodeId,
     },
-    /// All tell `owner`. One node migrates the slot on this course, and `importer` imports it from `from`: these are
+    /// All tell `owner`. One node migrates the slot on this route, and `importer` imports it from `from`: these are
     /// not the two ends of a move from the owner.
     Crossed {
         owner: NodeId,
-        course: Course,
+        route: Route,
         importer: NodeId,
         from: NodeId,
     },
@@ -100,12 +100,12 @@ impl fmt::Display for Strangeness {
             ),
             Self::Crossed {
                 owner,
-                course,
+                route,
                 importer,
                 from,
             } => write!(
                 f,
-                "of {owner} migrates {course}, and {importer} imports it from {from}"
+                "of {owner} migrates {route}, and {importer} imports it from {from}"
             ),
             Self::NotImported { source, target } => write!(
                 f,

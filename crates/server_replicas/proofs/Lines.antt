@@ -1,7 +1,7 @@
 -- Lines that are read one after the other.
 use Rattle.std.proofs.Common.{◌≡◌, List, [], ◌∷◌, ◌++◌, ap, append_assoc, refl, sym}
 use Rattle.std.specs.Prelude.{Option, None, Some, option_map}
-use Rattle.cluster_nodes.specs.declared.node_line.NodeLine.{NodeLine}
+use Rattle.listed_nodes.specs.declared.node_line.NodeLine.{NodeLine}
 
 pub first_put : (rest : Option (List NodeLine)) → rest ≡ option_map (λ ls. [] ++ ls) rest
 first_put None = refl

@@ -2,9 +2,9 @@
 -- NODES has it.
 use Rattle.std.specs.Prelude.{◌≡◌, ◌⊎◌, ℕ, List, [], ◌∷◌, ◌++◌, Option, None, Some, Result, Ok, Err, codes, option_map}
 use Rattle.byte_texts.specs.Parts.{parts}
-use Rattle.cluster_nodes.specs.Names.{if_there}
-use Rattle.cluster_nodes.specs.Nodes.{line_in}
-use Rattle.cluster_nodes.specs.declared.node_line.NodeLine.{NodeLine}
+use Rattle.listed_nodes.specs.Names.{if_there}
+use Rattle.listed_nodes.specs.Nodes.{line_in}
+use Rattle.listed_nodes.specs.declared.node_line.NodeLine.{NodeLine}
 use Rattle.cluster_views.specs.Faults.{error_fault}
 use Rattle.cluster_views.specs.declared.fault.SurveyFault.{SurveyFault}
 use Rattle.cluster_views.specs.declared.fault.SurveyFault.TheVariants as fault

@@ -1,9 +1,9 @@
 -- The marks that a server tells of itself (the page of CLUSTER NODES): at Valkey a replica tells those of its master.
 use Rattle.std.specs.Prelude.{ℕ, Bool, false, ◌&&◌, ◌==◌, List}
 use Rattle.std.specs.List.{list_any}
-use Rattle.cluster_nodes.specs.declared.node_line.NodeLine.{NodeLine}
-use Rattle.cluster_nodes.specs.declared.slot_word.SlotWord.{SlotWord}
-use Rattle.cluster_nodes.specs.declared.slot_word.SlotWord.TheVariants as word
+use Rattle.listed_nodes.specs.declared.node_line.NodeLine.{NodeLine}
+use Rattle.listed_nodes.specs.declared.slot_word.SlotWord.{SlotWord}
+use Rattle.listed_nodes.specs.declared.slot_word.SlotWord.TheVariants as word
 
 abbrev pub marks : (slot : ℕ) → SlotWord → Bool
 marks s (word.Slots first last) = false

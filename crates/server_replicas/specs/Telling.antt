@@ -1,7 +1,7 @@
 -- What is said of replicas that lack a mark of their master, or tell none.
 use Rattle.std.specs.Prelude.{ℕ, Bool, ◌&&◌, cond, not, List, [], ◌∷◌, ◌++◌, codes, decimal}
 use Rattle.std.specs.List.{flat_map}
-use Rattle.cluster_nodes.specs.declared.node_line.NodeLine.{NodeLine}
+use Rattle.listed_nodes.specs.declared.node_line.NodeLine.{NodeLine}
 use Rattle.cluster_views.specs.Numbers.{numbers_to}
 use Rattle.cluster_views.specs.Surveying.{has_mark}
 use Rattle.cluster_admin.specs.Surveys.{Survey}

@@ -7,7 +7,7 @@ ghost use Rattle.server_replicas.specs.Asking.{lines_told, replicas_request, rep
 
 use byte_streams::{ByteIn, ByteOut};
 use byte_texts::{Memory, Text, TextList};
-use cluster_nodes::{NodeLine, line_in};
+use listed_nodes::{NodeLine, line_in};
 use cluster_views::SurveyFault;
 use key_slots::NodeId;
 use resp2_wire::{Reply, encode_request};

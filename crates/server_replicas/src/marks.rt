@@ -3,7 +3,7 @@ ghost use Rattle.std.specs.Prelude.{◌≡◌, ◌<◌, ◌||◌, ℕ, false, is
 ghost use Rattle.cluster_views.specs.Surveying.{has_mark};
 ghost use Rattle.server_replicas.specs.Marks.{is_marked, marks, marks_own, shows_mark};
 
-use cluster_nodes::{NodeLine, SlotWord};
+use listed_nodes::{NodeLine, SlotWord};
 use cluster_views::ServerSurvey;
 use key_slots::{NodeId, SLOTS, Slot};
 

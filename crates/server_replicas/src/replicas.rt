@@ -9,7 +9,7 @@ use crate::asking::replicas_at;
 use crate::marks::has_marks;
 use crate::telling::{put_lacks, put_silent, put_untold};
 use byte_texts::Memory;
-use cluster_nodes::NodeLine;
+use listed_nodes::NodeLine;
 use cluster_survey::{ClusterFault, Reach, ipv4_in, view_at};
 use cluster_views::{ServerSurvey, SurveyFault};
 use key_slots::NodeId;

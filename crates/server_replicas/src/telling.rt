@@ -7,7 +7,7 @@ ghost use Rattle.server_replicas.specs.Telling.{untold_line};
 
 use crate::marks::{has_mark, shows_mark};
 use byte_texts::Memory;
-use cluster_nodes::NodeLine;
+use listed_nodes::NodeLine;
 use cluster_views::ServerSurvey;
 use key_slots::{NodeId, SLOTS, Slot};
 use survey_texts::{put, put_node, put_number};

@@ -10,7 +10,7 @@ use Rattle.cluster_admin.specs.declared.call.AdminCall.{AdminCall}
 use Rattle.cluster_admin.specs.declared.port_fault.PortFault.{PortFault}
 use Rattle.redis_servers.proofs.Listeners.{own_reply}
 use Rattle.redis_servers.specs.Calls.{AnswersBy, Commands, Confirms, Given, Reads, ReadsError, is_excuse, unsent_fault}
-use Rattle.redis_servers.specs.Courses.{Course}
+use Rattle.redis_servers.specs.RunHistories.{RunHistory}
 use Rattle.redis_servers.specs.Runs.{Runs}
 use Rattle.redis_servers.specs.declared.port.ServersPort as port
 use Rattle.redis_servers.specs.declared.setup.PortSetup.{PortSetup}
@@ -72,34 +72,34 @@ ok_same : (a b : AdminReply) → ◌≡◌ {A = Given} (Ok a) (Ok b) → a ≡ b
 ok_same a b e = cc
 
 module _ {I O : Type 0} (by : Streams I O) where
-  answered_keys : (x : PortSetup) (course : Course) (n : ℕ) (c : AdminCommand) (links links' : List (link.Link I O))
+  answered_keys : (x : PortSetup) (history : RunHistory) (n : ℕ) (c : AdminCommand) (links links' : List (link.Link I O))
       (r : AdminReply) (said : Option (List ℕ))
-      → AnswersBy (AsksNode by) (unsent_fault (length x.book) n c) x course n c links (Ok r) said links'
+      → AnswersBy (AsksNode by) (unsent_fault (length x.book) n c) x history n c links (Ok r) said links'
       → ListsKeys c r
-  answered_keys x course n (KeysIn s b) links links' r said (inl way) = confirmed way.5
+  answered_keys x history n (KeysIn s b) links links' r said (inl way) = confirmed way.5
     where
       commanded : (given : Given) → given ≡ Ok r
-          → Commands (AsksNode by) x course (request_of x.book x.timeout x.credentials (KeysIn s b)) n (KeysIn s b) way.0 given way.1.said way.2
+          → Commands (AsksNode by) x history (request_of x.book x.timeout x.credentials (KeysIn s b)) n (KeysIn s b) way.0 given way.1.said way.2
           → ListsKeys (KeysIn s b) r
       commanded (Ok reply) same commands =
           subst (λ (a : AdminReply). ListsKeys (KeysIn s b) a) (ok_same reply r same) (says_keys n s b commands.0 reply commands.2.0)
       commanded (Err f) same commands = absurd (not_both r f (sym same))
 
-      confirmed : Confirms (AsksNode by) x course n (KeysIn s b) way.1 way.2 (Ok r) said links' → ListsKeys (KeysIn s b) r
+      confirmed : Confirms (AsksNode by) x history n (KeysIn s b) way.1 way.2 (Ok r) said links' → ListsKeys (KeysIn s b) r
       confirmed (inl stands) =
           commanded way.1.given (own_reply way.1 stands.2.0 r said stands.2.2) way.4
       confirmed (inr stops) = absurd (not_both r stops.0.fault stops.2)
-  answered_keys x course n (KeysIn s b) links links' r said (inr way) = absurd (not_both r way.0.fault way.2)
-  answered_keys x course n (Importing s m) links links' r said way = tt
-  answered_keys x course n (Migrating s m) links links' r said way = tt
-  answered_keys x course n (SetNode s m) links links' r said way = tt
-  answered_keys x course n (Stable s) links links' r said way = tt
-  answered_keys x course n (Migrate ks m) links links' r said way = tt
+  answered_keys x history n (KeysIn s b) links links' r said (inr way) = absurd (not_both r way.0.fault way.2)
+  answered_keys x history n (Importing s m) links links' r said way = tt
+  answered_keys x history n (Migrating s m) links links' r said way = tt
+  answered_keys x history n (SetNode s m) links links' r said way = tt
+  answered_keys x history n (Stable s) links links' r said way = tt
+  answered_keys x history n (Migrate ks m) links links' r said way = tt
 
   pub ran_keys : {P : Type 0} (p q : port.ServersPort I O P) (cs : List AdminCall) → Runs by p cs q
       → AllListKeys cs
   ran_keys p q [] runs = tt
   ran_keys p q (c ∷ cs) runs = (
-    answered_keys p.setup p.course c.node c.command p.links.items runs.0.links.items c.reply runs.0.said runs.1.answers,
+    answered_keys p.setup p.history c.node c.command p.links.items runs.0.links.items c.reply runs.0.said runs.1.answers,
     ran_keys runs.0 q cs runs.2,
   )

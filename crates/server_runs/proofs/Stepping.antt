@@ -33,7 +33,7 @@ use Rattle.redis_servers.specs.Runs.{Runs}
 use Rattle.redis_servers.specs.declared.commanding.Outcome.{Outcome}
 use Rattle.redis_servers.specs.declared.port.ServersPort as port
 use Rattle.redis_servers.proofs.InOneGo.{tellings_run}
-use Rattle.redis_servers.specs.Courses.{Course}
+use Rattle.redis_servers.specs.RunHistories.{RunHistory}
 use Rattle.redis_servers.specs.declared.setup.PortSetup.{PortSetup}
 use Rattle.server_links.specs.Streams.{Streams}
 use Rattle.server_links.specs.declared.link.Link as link
@@ -172,12 +172,12 @@ module _ {W : Type 0} (by : Watching W) where
 -- ---- what is answered
 
 module _ {I O : Type 0} (streams : Streams I O) where
-  told_each : (x : PortSetup) (course : Course) (request : List ℕ) (c : AdminCommand) (links links' : List (link.Link I O))
-      (nodes : List ℕ) (os : List Outcome) → TellsEach (AsksNode streams) x course request c links nodes os links'
+  told_each : (x : PortSetup) (history : RunHistory) (request : List ℕ) (c : AdminCommand) (links links' : List (link.Link I O))
+      (nodes : List ℕ) (os : List Outcome) → TellsEach (AsksNode streams) x history request c links nodes os links'
       → length os ≡ length nodes
-  told_each x course request c links links' [] os h = ap length h.0
-  told_each x course request c links links' (n ∷ ns) os h =
-      ap length h.3 ∙ ap suc (told_each x course request c h.2 links' ns h.1 h.5)
+  told_each x history request c links links' [] os h = ap length h.0
+  told_each x history request c links links' (n ∷ ns) os h =
+      ap length h.3 ∙ ap suc (told_each x history request c h.2 links' ns h.1 h.5)
 
 length_map : {A B : Type 0} (f : A → B) (xs : List A) → length (map f xs) ≡ length xs
 length_map f [] = refl
@@ -339,7 +339,7 @@ module _ {I O P W : Type 0} (streams : Streams I O) (by : Watching W) where
       → TellsInOneGo streams x.slot x.owner nodes p answers q → length answers ≡ length nodes
   length_answers x nodes p q answers t =
       ap length t.answers_are ∙ length_map (λ (o : Outcome). o.given) t.outcomes
-      ∙ told_each streams p.setup p.course _ (SetNode x.slot x.owner) p.links.items q.links.items nodes t.outcomes t.each
+      ∙ told_each streams p.setup p.history _ (SetNode x.slot x.owner) p.links.items q.links.items nodes t.outcomes t.each
 
   -- the watcher gave the plan up before they were told
   pub told_given_up : (x : SlotOwner) (nodes : List ℕ) (first last : port.ServersPort I O P × W) (p : Progress) (j : PlanState) (n : ℕ)

@@ -19,7 +19,7 @@ MayPause r = (r.kind ≡ Opens) × AreClosed r.nodes r.counts
 
 -- where that is so the operator decides, and else nothing is given up
 abbrev pub Decides : {S L : Type 0} → (asks : S → Bool → S → Type 0) → watch.Watch S L → Bool → watch.Watch S L → Type 0
-Decides asks w pauses w' = (MayPause w.run × asks w.surroundings pauses w'.surroundings)
+Decides asks w pauses w' = (MayPause w.run × asks w.run_context pauses w'.run_context)
     ⊎ ((MayPause w.run → ⊥) × (pauses ≡ false))
 
 -- ---- the pace
@@ -55,17 +55,17 @@ progress_at t m c = record {
 -- the operator was shown how far the plan is, or there was no memory for that
 abbrev pub ShowsAt : {S L : Type 0} → (shows : S → List ℕ → S → Type 0) → (millis : ℕ) → watch.Watch S L
     → watch.Watch S L → Type 0
-ShowsAt shows t w w' = (w'.surroundings ≡ w.surroundings)
-    ⊎ shows w.surroundings (progress_text (progress_at t w.moves w.run.counts)) w'.surroundings
+ShowsAt shows t w w' = (w'.run_context ≡ w.run_context)
+    ⊎ shows w.run_context (progress_text (progress_at t w.moves w.run.counts)) w'.run_context
 
 -- the same at the time that the clock tells
 abbrev pub ShowsNow : {S L : Type 0} → (tells : S → ℕ → S → Type 0) → (shows : S → List ℕ → S → Type 0)
     → watch.Watch S L → watch.Watch S L → Type 0
-ShowsNow {S} tells shows w w' = (millis : ℕ) × (mid : S) × tells w.surroundings millis mid
-    × ((w'.surroundings ≡ mid) ⊎ shows mid (progress_text (progress_at millis w.moves w.run.counts)) w'.surroundings)
+ShowsNow {S} tells shows w w' = (millis : ℕ) × (mid : S) × tells w.run_context millis mid
+    × ((w'.run_context ≡ mid) ⊎ shows mid (progress_text (progress_at millis w.moves w.run.counts)) w'.run_context)
 
 -- and the line of that was ended
 abbrev pub ShowsLast : {S L : Type 0} → (tells : S → ℕ → S → Type 0) → (shows : S → List ℕ → S → Type 0)
     → (closes : S → S → Type 0) → watch.Watch S L → watch.Watch S L → Type 0
 ShowsLast {S} {L} tells shows closes w w' =
-    (mid : watch.Watch S L) × ShowsNow tells shows w mid × closes mid.surroundings w'.surroundings
+    (mid : watch.Watch S L) × ShowsNow tells shows w mid × closes mid.run_context w'.run_context

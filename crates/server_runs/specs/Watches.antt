@@ -20,7 +20,7 @@ IsOfRun w w' = (w'.pace ≡ w.pace) × (w'.moves ≡ w.moves)
 abbrev pub MayPauseBefore : {L : Type 0} → RunRecord L → Order → Type 0
 MayPauseBefore r o = (kind_of o ≡ Opens) × AreClosed r.nodes r.counts
 
--- what the surroundings of a watch do, and what its log takes
+-- what the run_context of a watch do, and what its log takes
 pub record Around (S L : Type 0) : Type 1 where
   pub asks : S → Bool → S → Type 0
   pub tells : S → ℕ → S → Type 0
@@ -30,7 +30,7 @@ pub record Around (S L : Type 0) : Type 1 where
 -- why a plan is given up before the command: the operator asks for that, or the command's line, or one before it, could
 -- not be written to the log
 abbrev pub HasReason : {S L : Type 0} → Around S L → watch.Watch S L → Order → watch.Watch S L → Type 0
-HasReason by w o w' = (by.asks w.surroundings true w'.surroundings × (w'.run.log ≡ w.run.log))
+HasReason by w o w' = (by.asks w.run_context true w'.run_context × (w'.run.log ≡ w.run.log))
     ⊎ (Logs by.took (log_command_text o.node o.command) w.run.log w'.run.log × HasBrokenLog w'.run.log)
 
 -- A command that is sent stands in the log before that, and where the plan could be given up the operator did not ask
@@ -40,7 +40,7 @@ abbrev pub Sees : {S L : Type 0} → Around S L → watch.Watch S L → Order �
 Sees {S} by w o true w' = Logs by.took (log_command_text o.node o.command) w.run.log w'.run.log
     × (w'.run.kind ≡ kind_of o) × (w'.run.counts ≡ w.run.counts) × (w'.run.nodes ≡ w.run.nodes) × IsOfRun w w'
     × ((MayPauseBefore w.run o → ⊥)
-    ⊎ (((s : S) × by.asks w.surroundings false s) × (HasBrokenLog w'.run.log → ⊥)))
+    ⊎ (((s : S) × by.asks w.run_context false s) × (HasBrokenLog w'.run.log → ⊥)))
 Sees by w o false w' = MayPauseBefore w.run o × HasReason by w o w'
     × (w'.run.counts ≡ w.run.counts) × (w'.run.nodes ≡ w.run.nodes) × IsOfRun w w'
 

@@ -15,7 +15,7 @@ mod run_record;
 mod slot_owner;
 mod speaks;
 mod steps;
-mod surroundings;
+mod run_context;
 mod watch;
 
 pub use applying::apply;
@@ -29,5 +29,5 @@ pub use run_record::RunRecord;
 pub use server_commands::shown;
 pub use slot_owner::SlotOwner;
 pub use speaks::Speaks;
-pub use surroundings::Surroundings;
+pub use run_context::RunContext;
 pub use watch::Watch;

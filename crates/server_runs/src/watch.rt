@@ -14,7 +14,7 @@ use crate::kind::Kind;
 use crate::pace::Pace;
 use crate::run_log::RunLog;
 use crate::run_record::RunRecord;
-use crate::surroundings::Surroundings;
+use crate::run_context::RunContext;
 use byte_streams::ByteOut;
 use cluster_admin::{AdminReply, PortFault};
 use plan_runner::{Order, Watcher};
@@ -29,19 +29,19 @@ const SHOWN_EVERY: u64 = 1000;
 #[derive(Drop)]
 pub struct Watch<S: Drop, L: Drop> {
     alloc: Global,
-    surroundings: S,
+    run_context: S,
     pace: Option<Pace>,
     moves: u64,
     run: RunRecord<L>,
     shown: u64,
 }
 
-impl<S: Surroundings + Drop, L: ByteOut + Drop> Watch<S, L> {
+impl<S: RunContext + Drop, L: ByteOut + Drop> Watch<S, L> {
     /// A watch over a plan of so many moves, in a cluster of so many nodes. The counts say which slots are open before
     /// the plan.
     pub fn new(
         alloc: Global,
-        surroundings: S,
+        run_context: S,
         log: Option<RunLog<L>>,
         pace: Option<Pace>,
         nodes: u8,
@@ -49,13 +49,13 @@ impl<S: Surroundings + Drop, L: ByteOut + Drop> Watch<S, L> {
         counts: Counts,
     ) -> Self
         ensures run { result.run ≡ record { log = log; nodes = nodes; counts = counts; kind = Other } }
-        ensures surroundings { result.surroundings ≡ surroundings }
+        ensures run_context { result.run_context ≡ run_context }
         ensures pace { result.pace ≡ pace }
         ensures moves { result.moves ≡ moves }
     {
         Self {
             alloc,
-            surroundings,
+            run_context,
             pace,
             moves,
             run: RunRecord::new(log, nodes, counts),
@@ -97,14 +97,14 @@ impl<S: Surroundings + Drop, L: ByteOut + Drop> Watch<S, L> {
         ensures kept { IsAside self.old self.new }
     {
         self.show_now();
-        self.surroundings.close();
+        self.run_context.close();
     }
 
     /// Tells the operator and the log of how many slots masters were notified before all of them had heard of the new
     /// owner, if there are any. Where there is no memory for the line, the log is given up.
     pub fn tell_unheard(&mut self, slots: u64)
         ensures log { LogsUnheard L.took slots self.old.run.log self.new.run.log }
-        ensures note { TellsUnheard S.notes slots self.old.surroundings self.new.surroundings }
+        ensures note { TellsUnheard S.notes slots self.old.run_context self.new.run_context }
         ensures kept { Keeps self.old self.new }
     {
         if slots == 0 {
@@ -112,7 +112,7 @@ impl<S: Surroundings + Drop, L: ByteOut + Drop> Watch<S, L> {
         }
         match unheard_line(self.alloc, slots) {
             Ok(line) => {
-                self.surroundings.note(line.as_slice());
+                self.run_context.note(line.as_slice());
                 self.log_end(line.as_slice());
             }
             Err(AllocError) => self.run.log_line(Err(AllocError)),
@@ -123,7 +123,7 @@ impl<S: Surroundings + Drop, L: ByteOut + Drop> Watch<S, L> {
         ensures shown { ShowsNow S.tells S.shows self.old self.new }
         ensures kept { IsAside self.old self.new }
     {
-        let millis = self.surroundings.millis();
+        let millis = self.run_context.millis();
         self.show(millis);
     }
 
@@ -136,7 +136,7 @@ impl<S: Surroundings + Drop, L: ByteOut + Drop> Watch<S, L> {
         if !self.may_pause() {
             return false;
         }
-        self.surroundings.is_pause_asked()
+        self.run_context.is_pause_asked()
     }
 
     /// Whether the command that was seen last opens a slot, and no slot is open.
@@ -162,7 +162,7 @@ impl<S: Surroundings + Drop, L: ByteOut + Drop> Watch<S, L> {
         ensures time { IfOk result (λ t. IsTimed [] t.printed.items) }
         ensures kept { IsAside self.old self.new }
     {
-        let time = self.surroundings.time(self.alloc)?;
+        let time = self.run_context.time(self.alloc)?;
         let mut line = Transcript::new(self.alloc);
         line.log_time(time.as_slice())?;
         Ok(line)
@@ -287,26 +287,26 @@ impl<S: Surroundings + Drop, L: ByteOut + Drop> Watch<S, L> {
         ensures paced { KeepsPace S.tells S.waits self.old.run.counts.keys pace }
         ensures kept { IsAside self.old self.new }
     {
-        let millis = self.surroundings.millis();
+        let millis = self.run_context.millis();
         self.wait(pace.early(self.run.counts.keys, millis));
     }
 
     /// Waits so many milliseconds, if any.
     fn wait(&mut self, millis: u64)
-        ensures waited { WaitsFor S.waits millis self.old.surroundings self.new.surroundings }
+        ensures waited { WaitsFor S.waits millis self.old.run_context self.new.run_context }
         ensures kept { IsAside self.old self.new }
     {
         if millis == 0 {
             return;
         }
-        self.surroundings.wait(millis);
+        self.run_context.wait(millis);
     }
 
     /// Shows how far the plan is, where that was not done for a second.
     fn show_each_second(&mut self)
         ensures { IsAside self.old self.new }
     {
-        let millis = self.surroundings.millis();
+        let millis = self.run_context.millis();
         if millis.saturating_sub(self.shown) >= SHOWN_EVERY {
             self.shown = millis;
             self.show(millis);
@@ -319,7 +319,7 @@ impl<S: Surroundings + Drop, L: ByteOut + Drop> Watch<S, L> {
         ensures kept { IsAside self.old self.new }
     {
         match self.progress_line(millis) {
-            Ok(line) => self.surroundings.show(line.printed.as_slice()),
+            Ok(line) => self.run_context.show(line.printed.as_slice()),
             Err(AllocError) => {}
         }
     }
@@ -359,7 +359,7 @@ fn unheard_line(alloc: Global, slots: u64) -> Result<Vec<u8>, AllocError>
     Ok(line.into_bytes())
 }
 
-impl<S: Surroundings + Drop, L: ByteOut + Drop> Watcher for Watch<S, L> {
+impl<S: RunContext + Drop, L: ByteOut + Drop> Watcher for Watch<S, L> {
     ghost use Rattle.server_runs.specs.Watches.{Hears, Misses, Sees};
 
     ghost sees = { λ w order go v.

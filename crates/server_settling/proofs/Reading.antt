@@ -2,7 +2,7 @@
 use Rattle.std.proofs.Common.{◌≡◌, ℕ, List, [], ◌∷◌, ◌++◌, Option, None, Some, option_map, refl, sym, ap, append_assoc}
 use Rattle.std.proofs.Common.{append-nil, ◌<◌, length, arith}
 use Rattle.byte_texts.specs.Parts.{parts}
-use Rattle.cluster_nodes.specs.Names.{if_there}
+use Rattle.listed_nodes.specs.Names.{if_there}
 use Rattle.server_settling.specs.Clients.{Connection, client_in, late_ids, late_of, lines_in}
 
 abbrev pub goes_on : List ℕ → Option (List ℕ) → Option (List ℕ)

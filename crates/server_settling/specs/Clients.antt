@@ -8,7 +8,7 @@ use Rattle.std.specs.List.{list_all}
 use Rattle.byte_texts.specs.Decimals.{wide_number}
 use Rattle.byte_texts.specs.Parts.{parts, split_once}
 use Rattle.byte_texts.specs.Words.{is}
-use Rattle.cluster_nodes.specs.Names.{if_there}
+use Rattle.listed_nodes.specs.Names.{if_there}
 use Rattle.server_settling.specs.declared.client_list.Client as declared
 
 -- a connection: its number, the address of its other end, the last command that came over it, and whether it has no

@@ -5,7 +5,7 @@ use crate::script::Replies;
 use crate::servers::links;
 use cluster_views::SurveyFault;
 use key_slots::{NodeId, Slot};
-use server_clusters::{AskedNodes, KeyTable, SlotQuestions, ask_all};
+use slot_key_counts::{AskedNodes, KeyTable, SlotQuestions, ask_all};
 use std::alloc::Global;
 use std::test::Fail;
 

@@ -1,7 +1,7 @@
 //! Dead masters that servers list: one that failed and has no slots is left out, and no other.
 use crate::phases::{SOURCE, TARGET, THIRD, view};
 use crate::servers::book;
-use cluster_nodes::NodeLines;
+use listed_nodes::NodeLines;
 use cluster_survey::masters_of;
 use cluster_views::{SurveyFault, survey_of};
 use std::alloc::Global;

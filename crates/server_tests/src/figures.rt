@@ -3,7 +3,7 @@ use crate::script::Replies;
 use crate::servers::{book, links};
 use cluster_views::SurveyFault;
 use plan_outlines::NodeServer;
-use server_figures::servers_of;
+use server_infos::servers_of;
 use std::alloc::Global;
 use std::test::Fail;
 

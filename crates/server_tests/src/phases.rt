@@ -3,7 +3,7 @@ ghost use Rattle.std.specs.Prelude.{◌≡◌, IfOk, length};
 
 use crate::servers::book;
 use byte_texts::Memory;
-use cluster_nodes::{NodeLines, nodes_in};
+use listed_nodes::{NodeLines, nodes_in};
 use cluster_views::{ServerSurvey, SurveyFault, Surveyed, survey_of};
 use key_slots::{NodeId, Slot};
 use plan_language::{Line, Plan, print};

@@ -3,7 +3,7 @@ ghost use Rattle.std.specs.Prelude.{◌≡◌, IfOk, length};
 
 use crate::phases::{lines_of, view};
 use crate::servers::book;
-use cluster_nodes::NodeLines;
+use listed_nodes::NodeLines;
 use cluster_views::{SurveyFault, Surveyed, survey_of};
 use std::alloc::Global;
 use std::test::Fail;

@@ -25,7 +25,7 @@ use Rattle.plan_semantics.specs.declared.order.Order.{Order}
 use Rattle.plan_semantics.proofs.Unrolling.{spelled_by_prefixes}
 use Rattle.reshard_theorem.proofs.Base.{Base, Inv, ListedOk}
 use Rattle.reshard_theorem.proofs.Nexts.{NextStep, calls-append, next_only, next_step, none_open, spelled_last, spelled_more, stops_more, there_is}
-use Rattle.reshard_theorem.proofs.Phases.{Closed, Drained, Half, Moving, Opening, Phase, Rest, Telling, leg_end}
+use Rattle.reshard_theorem.proofs.Phases.{Closed, Drained, TargetTold, Migrating, Importing, Phase, Rest, SourceTold, leg_end}
 use Rattle.reshard_theorem.proofs.Stops.{is_left_open, outer, stopped_in}
 use Rattle.slotwise_runs.specs.Headline.{HasNextOfSlot}
 use Rattle.slotwise_runs.specs.Seen.{AreSeenOfEachSlot, of_slot, slot_called}
@@ -43,13 +43,13 @@ end_phase n goal s (Closed o) l = closed l.goes_on.legs l.goes_on.is l.goes_on.e
     closed [] is e = ap phase.Closed e
     closed (Move t b others ∷ legs) is e = cc
     closed (Try t ∷ legs) is e = cc
-end_phase n goal s (Opening o t) (inl l) = cc (l.is)
-end_phase n goal s (Opening o t) (inr l) = cc (l.is)
-end_phase n goal s (Moving o t) l = cc (l.is)
+end_phase n goal s (Importing o t) (inl l) = cc (l.is)
+end_phase n goal s (Importing o t) (inr l) = cc (l.is)
+end_phase n goal s (Migrating o t) l = cc (l.is)
 end_phase n goal s (Drained o t) l = cc (l.is)
-end_phase n goal s (Half o t) l = cc (l.is)
-end_phase n goal s (Telling o t []) l = absurd (l.some refl)
-end_phase n goal s (Telling o t (m ∷ left)) l = cc (l.is)
+end_phase n goal s (TargetTold o t) l = cc (l.is)
+end_phase n goal s (SourceTold o t []) l = absurd (l.some refl)
+end_phase n goal s (SourceTold o t (m ∷ left)) l = cc (l.is)
 
 module _ (n : ℕ) (goal : ℕ → ℕ) (w : World) (past : List Event) (plan : List PlanCommand) (store : Store) (inv : Inv n goal w past plan None store) where
   pub closed_at_end : (s : ℕ) → part plan s ≡ [] → HasPhaseAt w s (phase.Closed (goal s))

@@ -8,7 +8,7 @@ use Rattle.plan_language.specs.declared.plan_command.PlanCommand.{PlanCommand}
 use Rattle.plan_language.specs.declared.plan_command.PlanCommand.TheVariants as planned
 use Rattle.plan_semantics.specs.Plans.{AreLegs, Closes, IsPart, KeepsVersion, Leg, Move, Try, first_owner, last_told, legs_of, part, tell}
 use Rattle.plan_semantics.proofs.OwnedMoves.{part-append}
-use Rattle.reshard_theorem.proofs.Phases.{Closed, Drained, Half, More, Moving, Opening, Phase, Rest, Telling, leg_end}
+use Rattle.reshard_theorem.proofs.Phases.{Closed, Drained, TargetTold, More, Migrating, Importing, Phase, Rest, SourceTold, leg_end}
 use Rattle.reshard_theorem.proofs.Stops.{outer}
 use Rattle.reshard_theorem.proofs.Whole.{part_end}
 use Rattle.slotwise_runs.proofs.Parts.{AllOf, part-all, part-of_other}
@@ -50,19 +50,19 @@ module _ (parts : ℕ → List PlanCommand) (all : (s : ℕ) → AllOf s (parts 
 -- what was drained is listed once more
 abbrev pub part_from : ℕ → Phase → List PlanCommand → List PlanCommand
 part_from s (Closed o) rest = rest
-part_from s (Opening o t) rest = rest
-part_from s (Moving o t) rest = rest
+part_from s (Importing o t) rest = rest
+part_from s (Migrating o t) rest = rest
 part_from s (Drained o t) rest = planned.Drain s o t 1 ∷ rest
-part_from s (Half o t) rest = rest
-part_from s (Telling o t left) rest = rest
+part_from s (TargetTold o t) rest = rest
+part_from s (SourceTold o t left) rest = rest
 
 pub all-from : (s : ℕ) (q : Phase) (rest : List PlanCommand) → AllOf s rest → AllOf s (part_from s q rest)
 all-from s (Closed o) rest h = h
-all-from s (Opening o t) rest h = h
-all-from s (Moving o t) rest h = h
+all-from s (Importing o t) rest h = h
+all-from s (Migrating o t) rest h = h
 all-from s (Drained o t) rest h = (refl, h)
-all-from s (Half o t) rest h = h
-all-from s (Telling o t left) rest h = h
+all-from s (TargetTold o t) rest h = h
+all-from s (SourceTold o t left) rest h = h
 
 three : (v n o : ℕ) (legs : List Leg) → AreLegs v n o legs → AreLegs 3 n o legs
 three v n o [] h = tt
@@ -100,20 +100,20 @@ module _ (n goal s : ℕ) where
 
   pub from_here : (q : Phase) (rest : List PlanCommand) → Rest n goal s q rest → FromHere (outer q) (part_from s q rest)
   from_here (Closed o) rest l = make (phase.Closed o) rest [] rest o (refl, refl) l.below refl l.goes_on
-  from_here (Opening o t) rest (inl l) = make (phase.Importing o t) rest
+  from_here (Importing o t) rest (inl l) = make (phase.Importing o t) rest
       (planned.Migrating s t o ∷ planned.Drain s o t l.batch ∷ planned.SetNode s t t ∷ planned.SetNode s t o ∷ tell s t l.others) l.more t
       (inr (l.batch, l.others, l.some, l.ends, refl, refl)) (λ e. l.below) l.is l.goes_on
-  from_here (Opening o t) rest (inr l) = make (phase.Importing o t) rest (planned.Stable s t ∷ []) l.more o
+  from_here (Importing o t) rest (inr l) = make (phase.Importing o t) rest (planned.Stable s t ∷ []) l.more o
       (inl (refl, refl, refl)) (λ e. l.below) l.is l.goes_on
-  from_here (Moving o t) rest l = make (phase.Migrating o t) rest
+  from_here (Migrating o t) rest l = make (phase.Migrating o t) rest
       (planned.Drain s o t l.batch ∷ planned.SetNode s t t ∷ planned.SetNode s t o ∷ tell s t l.others) l.more t
       (l.batch, l.others, l.some, l.ends, refl, refl) (λ e. l.below) l.is l.goes_on
   from_here (Drained o t) rest l = make (phase.Migrating o t) (planned.Drain s o t 1 ∷ rest)
       (planned.Drain s o t 1 ∷ planned.SetNode s t t ∷ planned.SetNode s t o ∷ tell s t l.others) l.more t
       (1, l.others, omega arith, l.ends, refl, refl) (λ e. l.below) (ap (λ m. planned.Drain s o t 1 ∷ m) l.is) l.goes_on
-  from_here (Half o t) rest l = make (phase.TargetTold o t) rest (planned.SetNode s t o ∷ tell s t l.others) l.more t
+  from_here (TargetTold o t) rest l = make (phase.TargetTold o t) rest (planned.SetNode s t o ∷ tell s t l.others) l.more t
       (l.others, l.ends, refl, refl) (λ e. l.below) l.is l.goes_on
-  from_here (Telling o t left) rest l = make (phase.SourceTold o t left) rest (tell s t left) l.more t
+  from_here (SourceTold o t left) rest l = make (phase.SourceTold o t left) rest (tell s t left) l.more t
       (left, l.others.distinct, λ m. refl, refl, refl) (λ e. l.below) l.is l.goes_on
 
   pub final_from : (p : phase.Phase) (commands : List PlanCommand) → FromHere p commands → last_told (first_owner p) commands ≡ goal

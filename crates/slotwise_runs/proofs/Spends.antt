@@ -6,7 +6,7 @@ use Rattle.key_slots.specs.HashSlot.{slot_of}
 use Rattle.typed_values.specs.declared.value.Value.{Value}
 use Rattle.store_commands.specs.Store.{Key, is_named}
 use Rattle.cluster_admin.specs.declared.admin.AdminCommand.{AdminCommand}
-use Rattle.cluster_admin.specs.declared.admin.AdminCommand.TheVariants.{Importing, Migrating, SetNode, Stable, KeysIn, Migrate}
+use Rattle.cluster_admin.specs.declared.admin.AdminCommand.TheVariants as command
 use Rattle.cluster_admin.specs.declared.admin.AdminReply.{AdminReply}
 use Rattle.cluster_admin.specs.declared.admin.AdminReply.TheVariants as answers
 use Rattle.cluster_admin.specs.declared.call.AdminCall.{AdminCall}
@@ -29,7 +29,7 @@ use Rattle.reshard_theorem.proofs.Base.{Base, ListedOk}
 use Rattle.reshard_theorem.proofs.Clients.{client_base}
 use Rattle.reshard_theorem.proofs.Counting.{count_le, left_after_batch, left_exact, left_le, left_of, rounds_step, some_by_listing}
 use Rattle.reshard_theorem.proofs.Gains.{client_gain, none_fault, turned}
-use Rattle.reshard_theorem.proofs.Phases.{CountOk, Moving, Phase}
+use Rattle.reshard_theorem.proofs.Phases.{CountOk, Migrating, Phase}
 use Rattle.reshard_theorem.proofs.Servers.{listing_keys}
 use Rattle.reshard_theorem.proofs.Spending.{Grows, count, count_kept, due, fine_reply, grow_append, grows_same, one_here, refused_by, rounds_grow, source_facts}
 use Rattle.reshard_theorem.proofs.Whole.{after_admin}
@@ -42,30 +42,30 @@ use Rattle.slotwise_runs.proofs.Parts.{AllOf, all-part, front, part-front, witho
 -- ---- the counts after a call
 
 pub counts_other : (κ : Counts) (w : World) (r : ℕ) (c : AdminCommand) (reply : AdminReply) (t : ℕ) → t ≢ slot_called c → counts_after κ w (Admin r c reply) t ≡ κ t
-counts_other κ w r (Migrating s m) answers.Ok t e = cond-false (eqb t s) (κ t ++ count w s r ∷ []) (κ t) (ne_eqb t s e)
-counts_other κ w r (Migrating s m) answers.NoKey t e = refl
-counts_other κ w r (Migrating s m) (answers.Keys ks) t e = refl
-counts_other κ w r (Migrating s m) (answers.Refused k) t e = refl
-counts_other κ w r (Importing s m) reply t e = refl
-counts_other κ w r (SetNode s m) reply t e = refl
-counts_other κ w r (Stable s) reply t e = refl
-counts_other κ w r (KeysIn s m) reply t e = refl
-counts_other κ w r (Migrate ks m) reply t e = refl
+counts_other κ w r (command.Migrating s m) answers.Ok t e = cond-false (eqb t s) (κ t ++ count w s r ∷ []) (κ t) (ne_eqb t s e)
+counts_other κ w r (command.Migrating s m) answers.NoKey t e = refl
+counts_other κ w r (command.Migrating s m) (answers.Keys ks) t e = refl
+counts_other κ w r (command.Migrating s m) (answers.Refused k) t e = refl
+counts_other κ w r (command.Importing s m) reply t e = refl
+counts_other κ w r (command.SetNode s m) reply t e = refl
+counts_other κ w r (command.Stable s) reply t e = refl
+counts_other κ w r (command.KeysIn s m) reply t e = refl
+counts_other κ w r (command.Migrate ks m) reply t e = refl
 
 pub counts_grow : (κ : Counts) (w : World) (r : ℕ) (c : AdminCommand) (reply : AdminReply) → Grows κ (counts_after κ w (Admin r c reply))
-counts_grow κ w r (Migrating s m) answers.Ok = λ t i. grown (eqb t s) t i
+counts_grow κ w r (command.Migrating s m) answers.Ok = λ t i. grown (eqb t s) t i
   where
     grown : (b : Bool) (t i : ℕ) → slice_index (κ t) i ≤ slice_index (cond b (κ t ++ count w s r ∷ []) (κ t)) i
     grown true t i = grow_append (κ t) (count w s r) i
     grown false t i = omega arith
-counts_grow κ w r (Migrating s m) answers.NoKey = grows_same κ
-counts_grow κ w r (Migrating s m) (answers.Keys ks) = grows_same κ
-counts_grow κ w r (Migrating s m) (answers.Refused k) = grows_same κ
-counts_grow κ w r (Importing s m) reply = grows_same κ
-counts_grow κ w r (SetNode s m) reply = grows_same κ
-counts_grow κ w r (Stable s) reply = grows_same κ
-counts_grow κ w r (KeysIn s m) reply = grows_same κ
-counts_grow κ w r (Migrate ks m) reply = grows_same κ
+counts_grow κ w r (command.Migrating s m) answers.NoKey = grows_same κ
+counts_grow κ w r (command.Migrating s m) (answers.Keys ks) = grows_same κ
+counts_grow κ w r (command.Migrating s m) (answers.Refused k) = grows_same κ
+counts_grow κ w r (command.Importing s m) reply = grows_same κ
+counts_grow κ w r (command.SetNode s m) reply = grows_same κ
+counts_grow κ w r (command.Stable s) reply = grows_same κ
+counts_grow κ w r (command.KeysIn s m) reply = grows_same κ
+counts_grow κ w r (command.Migrate ks m) reply = grows_same κ
 
 -- a part costs by its own slot's counts
 pub cost_same : (s : ℕ) (p : ℕ → ℕ) (κ κ' : Counts) (xs : List PlanCommand) → AllOf s xs → κ' s ≡ κ s → cost p κ' xs ≡ cost p κ xs
@@ -105,7 +105,7 @@ module _ (n : ℕ) (goal : ℕ → ℕ) (wholes : ℕ → List PlanCommand) wher
   due_le p κ w s (planned.Stable u at ∷ mine) others b all ok = omega arith
   due_le p κ w s (planned.Drain u o t d ∷ mine) others b all ok =
       let turn = drain_turn n goal w (mine ++ others) u o t d None b w in
-      let ok' : CountOk (κ u) (p u) (count w u) (Moving o t) =
+      let ok' : CountOk (κ u) (p u) (count w u) (Migrating o t) =
       subst (λ q. CountOk (κ u) (p u) (count w u) q) (sym turn.1 ∙ turn.2.was) (subst (λ v. CountOk (κ v) (p v) (count w v) (b.marks v).phase) (sym all.0) ok) in
       let g : rounds d (count w u o) ≤ rounds d (slice_index (κ u) (p u)) = rounds_grow n goal [] d (count w u o) (slice_index (κ u) (p u)) ok'.1 in
       omega arith
@@ -114,7 +114,7 @@ module _ (n : ℕ) (goal : ℕ → ℕ) (wholes : ℕ → List PlanCommand) wher
 
   unmoved : (κ κ' : Counts) (w next : World) (q : Phase) (s : ℕ) (mine others : List PlanCommand) (listed : Option (List Key)) (spent : ℕ)
       → (b : Base n goal w (mine ++ others) listed) → (b.marks s).phase ≡ q → AllOf s mine → κ' s ≡ κ s → Grows κ κ'
-      → ((o t : ℕ) → q ≡ Moving o t → (k : Key) → slot_of k ≡ s → held w o k ≡ None → held next o k ≡ None)
+      → ((o t : ℕ) → q ≡ Migrating o t → (k : Key) → slot_of k ≡ s → held w o k ≡ None → held next o k ≡ None)
       → Own κ w q s mine listed spent → Own κ' next q s mine listed spent
   unmoved κ κ' w next q s mine others listed spent b is all same grow less own = record {
     passed = own.passed;
@@ -140,14 +140,14 @@ module _ (n : ℕ) (goal : ℕ → ℕ) (wholes : ℕ → List PlanCommand) wher
       due_less (planned.Stable u at ∷ mine) listed b is all = let c : cost own.passed κ' mine ≡ cost own.passed κ mine = cost_same s own.passed κ κ' mine all.1 same in omega arith
       due_less (planned.Drain u o t d ∷ mine) None b is all =
           let turn = drain_turn n goal w (mine ++ others) u o t d None b w in
-          let moving : q ≡ Moving o t = sym is ∙ ap (λ v. (b.marks v).phase) (sym all.0) ∙ sym turn.1 ∙ turn.2.was in
+          let moving : q ≡ Migrating o t = sym is ∙ ap (λ v. (b.marks v).phase) (sym all.0) ∙ sym turn.1 ∙ turn.2.was in
           let gain : (k : Key) → slot_of k ≡ u → held w o k ≡ None → held next o k ≡ None = λ k i h. less o t moving k (i ∙ all.0) h in
           let l : rounds d (count next u o) ≤ rounds d (count w u o) = rounds_grow n goal [] d _ _ (count_le (node_at w o).held (node_at next o).held u gain) in
           let c : cost (one_more own.passed u) κ' mine ≡ cost (one_more own.passed u) κ mine = cost_same s (one_more own.passed u) κ κ' mine all.1 same in
           omega arith
       due_less (planned.Drain u o t d ∷ mine) (Some ks) b is all =
           let turn = drain_turn n goal w (mine ++ others) u o t d (Some ks) b w in
-          let moving : q ≡ Moving o t = sym is ∙ ap (λ v. (b.marks v).phase) (sym all.0) ∙ sym turn.1 ∙ turn.2.was in
+          let moving : q ≡ Migrating o t = sym is ∙ ap (λ v. (b.marks v).phase) (sym all.0) ∙ sym turn.1 ∙ turn.2.was in
           let gain : (k : Key) → slot_of k ≡ u → held w o k ≡ None → held next o k ≡ None = λ k i h. less o t moving k (i ∙ all.0) h in
           let l : rounds d (length (left_of (node_at next o).held u ks)) ≤ rounds d (length (left_of (node_at w o).held u ks)) =
           rounds_grow n goal [] d _ _ (left_le (node_at w o).held (node_at next o).held u ks gain) in
@@ -206,38 +206,38 @@ module _ (n : ℕ) (goal : ℕ → ℕ) (wholes : ℕ → List PlanCommand) wher
 
   drained_stepped : (κ : Counts) (w : World) (mine others : List PlanCommand) (spent s o t d : ℕ)
       (b : Base n goal w (planned.Drain s o t d ∷ (mine ++ others)) None) → Own κ w (b.marks s).phase s (planned.Drain s o t d ∷ mine) None spent → AllOf s mine → ListsSlot (node_at w o).held s d []
-      → Stepped κ w (effect w o (KeysIn s d)) s (planned.Drain s o t d ∷ (mine ++ others)) None b others mine None spent
+      → Stepped κ w (effect w o (command.KeysIn s d)) s (planned.Drain s o t d ∷ (mine ++ others)) None b others mine None spent
   drained_stepped κ w mine others spent s o t d b own all none =
       let calm = list_none_step n goal w (mine ++ others) s o t d b none in
-      calm_stepped κ κ w (planned.Drain s o t d ∷ (mine ++ others)) others mine None None (planned.Drain s o t d ∷ mine) spent o s (KeysIn s d) true b own calm refl (one_more own.passed s) (one_here own.passed s)
+      calm_stepped κ κ w (planned.Drain s o t d ∷ (mine ++ others)) others mine None None (planned.Drain s o t d ∷ mine) spent o s (command.KeysIn s d) true b own calm refl (one_more own.passed s) (one_here own.passed s)
       (λ x. own.behind x + (2 * rounds d (slice_index (x s) (own.passed s)) + 1))
       (λ x. let e : cost none_passed x (wholes s) ≡ own.behind x + ((2 * rounds d (slice_index (x s) (own.passed s)) + 1) + cost (one_more own.passed s) x mine) = own.splits x in omega arith)
       (λ x y g. let e : own.behind x ≤ own.behind y = own.grows x y g in
       let f : rounds d (slice_index (x s) (own.passed s)) ≤ rounds d (slice_index (y s) (own.passed s)) = rounds_grow n goal [] d _ _ (g s (own.passed s)) in omega arith)
-      (λ ok. let h : due (one_more own.passed s) κ (effect w o (KeysIn s d)) mine None ≤ cost (one_more own.passed s) κ mine = due_le (one_more own.passed s) κ (effect w o (KeysIn s d)) s mine others calm.next.0 all ok in
+      (λ ok. let h : due (one_more own.passed s) κ (effect w o (command.KeysIn s d)) mine None ≤ cost (one_more own.passed s) κ mine = due_le (one_more own.passed s) κ (effect w o (command.KeysIn s d)) s mine others calm.next.0 all ok in
       let p : spent + ((2 * rounds d (count w s o) + 1) + cost (one_more own.passed s) κ mine) ≤ own.behind κ + ((2 * rounds d (slice_index (κ s) (own.passed s)) + 1) + cost (one_more own.passed s) κ mine) = own.paid in
       omega arith)
 
   some_stepped : (κ : Counts) (w : World) (mine others : List PlanCommand) (spent s o t d : ℕ) (k : Key) (ks : List Key)
       (b : Base n goal w (planned.Drain s o t d ∷ (mine ++ others)) None) → Own κ w (b.marks s).phase s (planned.Drain s o t d ∷ mine) None spent → ListsSlot (node_at w o).held s d (k ∷ ks)
-      → Stepped κ w (effect w o (KeysIn s d)) s (planned.Drain s o t d ∷ (mine ++ others)) None b others (planned.Drain s o t d ∷ mine) (Some (k ∷ ks)) spent
+      → Stepped κ w (effect w o (command.KeysIn s d)) s (planned.Drain s o t d ∷ (mine ++ others)) None b others (planned.Drain s o t d ∷ mine) (Some (k ∷ ks)) spent
   unfolding effect
   some_stepped κ w mine others spent s o t d k ks b own some =
       let calm = list_some_step n goal w (mine ++ others) s o t d k ks b some in
       let turn = drain_turn n goal w (mine ++ others) s o t d None b w in
       let left : length (left_of (node_at w o).held s (k ∷ ks)) ≡ count w s o - d = left_exact (node_at w o).held s d (k ∷ ks) some in
       let step : rounds d (length (left_of (node_at w o).held s (k ∷ ks))) + 1 ≤ rounds d (count w s o) = rounds_step d (count w s o) _ turn.2.some (some_by_listing (node_at w o).held s d k ks some) (omega arith) in
-      calm_stepped κ κ w (planned.Drain s o t d ∷ (mine ++ others)) others (planned.Drain s o t d ∷ mine) None (Some (k ∷ ks)) (planned.Drain s o t d ∷ mine) spent o s (KeysIn s d) false b own calm refl own.passed refl
+      calm_stepped κ κ w (planned.Drain s o t d ∷ (mine ++ others)) others (planned.Drain s o t d ∷ mine) None (Some (k ∷ ks)) (planned.Drain s o t d ∷ mine) spent o s (command.KeysIn s d) false b own calm refl own.passed refl
       own.behind own.splits own.grows (λ ok. let p = own.paid in pays own.passed (own.behind κ) step p)
     where
       pays : (passed : ℕ → ℕ) (behind : ℕ) → rounds d (length (left_of (node_at w o).held s (k ∷ ks))) + 1 ≤ rounds d (count w s o)
           → spent + ((2 * rounds d (count w s o) + 1) + cost (one_more passed s) κ mine) ≤ behind + cost passed κ (planned.Drain s o t d ∷ mine)
-          → 1 + spent + due passed κ (effect w o (KeysIn s d)) (planned.Drain s o t d ∷ mine) (Some (k ∷ ks)) ≤ behind + cost passed κ (planned.Drain s o t d ∷ mine)
+          → 1 + spent + due passed κ (effect w o (command.KeysIn s d)) (planned.Drain s o t d ∷ mine) (Some (k ∷ ks)) ≤ behind + cost passed κ (planned.Drain s o t d ∷ mine)
       pays passed behind step p = omega arith
 
   batch_stepped : (κ : Counts) (w : World) (mine others : List PlanCommand) (spent s o t d : ℕ) (ks : List Key)
       (b : Base n goal w (planned.Drain s o t d ∷ (mine ++ others)) (Some ks)) → Own κ w (b.marks s).phase s (planned.Drain s o t d ∷ mine) (Some ks) spent
-      → Stepped κ w (effect w o (Migrate ks t)) s (planned.Drain s o t d ∷ (mine ++ others)) (Some ks) b others (planned.Drain s o t d ∷ mine) None spent
+      → Stepped κ w (effect w o (command.Migrate ks t)) s (planned.Drain s o t d ∷ (mine ++ others)) (Some ks) b others (planned.Drain s o t d ∷ mine) None spent
   batch_stepped κ w mine others spent s o t d ks b own = record {
     base = batch.next.0;
     stay = batch.next.1;
@@ -245,7 +245,7 @@ module _ (n : ℕ) (goal : ℕ → ℕ) (wholes : ℕ → List PlanCommand) wher
     own = record {
       passed = own.passed;
       ok = subst (λ p. CountOk (κ s) (own.passed s) (count next s) p) (sym batch.next.2)
-          (let before : CountOk (κ s) (own.passed s) (count w s) (Moving o t) = subst (λ p. CountOk (κ s) (own.passed s) (count w s) p) batch.was own.ok in (before.0, less before.1));
+          (let before : CountOk (κ s) (own.passed s) (count w s) (Migrating o t) = subst (λ p. CountOk (κ s) (own.passed s) (count w s) p) batch.was own.ok in (before.0, less before.1));
       behind = own.behind;
       splits = own.splits;
       grows = own.grows;
@@ -257,7 +257,7 @@ module _ (n : ℕ) (goal : ℕ → ℕ) (wholes : ℕ → List PlanCommand) wher
       batch = migrate_step n goal w (mine ++ others) s o t d ks b
 
       next : World
-      next = effect w o (Migrate ks t)
+      next = effect w o (command.Migrate ks t)
 
       gone : (x : Bool) (v : Option Value) → v ≡ None → cond x None v ≡ None
       gone true v p = refl
@@ -281,10 +281,10 @@ module _ (n : ℕ) (goal : ℕ → ℕ) (wholes : ℕ → List PlanCommand) wher
       (subst (λ a. StepBy κ w r' c' reply s plan listed b others a l spent) (sym t)
       (subst (λ a. StepBy κ w r' c' reply s plan listed b others mine' a spent) (sym u) h)))
 
-  not_refused_fault : (w : World) (r : ℕ) (ks : List Key) (t : ℕ) (reply : AdminReply) → MayReply w r (Migrate ks t) reply → is_refused reply ≡ false → admin_fault w r (Migrate ks t) ≡ None
-  not_refused_fault w r ks t reply may fine = elim (cases_Bool (is_some (admin_fault w r (Migrate ks t)))) [
-    | inl e ↦ absurd (true≢false (sym (refused_by n goal [] w r (Migrate ks t) reply may e) ∙ fine))
-    | inr e ↦ none_fault (admin_fault w r (Migrate ks t)) e
+  not_refused_fault : (w : World) (r : ℕ) (ks : List Key) (t : ℕ) (reply : AdminReply) → MayReply w r (command.Migrate ks t) reply → is_refused reply ≡ false → admin_fault w r (command.Migrate ks t) ≡ None
+  not_refused_fault w r ks t reply may fine = elim (cases_Bool (is_some (admin_fault w r (command.Migrate ks t)))) [
+    | inl e ↦ absurd (true≢false (sym (refused_by n goal [] w r (command.Migrate ks t) reply may e) ∙ fine))
+    | inr e ↦ none_fault (admin_fault w r (command.Migrate ks t)) e
   ]
 
   step_head : (κ : Counts) (w : World) (o : PlanCommand) (xs others : List PlanCommand) (listed : Option (List Key)) (r : ℕ) (c : AdminCommand) (reply : AdminReply) (mid : Remaining) (spent : ℕ)
@@ -292,46 +292,46 @@ module _ (n : ℕ) (goal : ℕ → ℕ) (wholes : ℕ → List PlanCommand) wher
       → Own κ w (b.marks (slot_named o)).phase (slot_named o) (o ∷ xs) listed spent → StepBy κ w r c reply (slot_named o) (o ∷ (xs ++ others)) listed b others mid.rest mid.listed spent
   step_head κ w (planned.Importing s m at) xs others None r c reply mid spent b all may h fine own =
       let calm = import_step n goal w (xs ++ others) s m at b in
-      over κ w reply r at c (Importing s m) s _ None b others mid.rest xs mid.listed None spent h.0 h.1 h.2 h.3
-      (granted κ w at (Importing s m) s _ None b others xs None spent calm.no_fault
-      (setslot_stepped κ κ w (planned.Importing s m at) xs others spent at s (Importing s m) b own all (λ p x. refl) refl calm refl (grows_same κ)))
+      over κ w reply r at c (command.Importing s m) s _ None b others mid.rest xs mid.listed None spent h.0 h.1 h.2 h.3
+      (granted κ w at (command.Importing s m) s _ None b others xs None spent calm.no_fault
+      (setslot_stepped κ κ w (planned.Importing s m at) xs others spent at s (command.Importing s m) b own all (λ p x. refl) refl calm refl (grows_same κ)))
   step_head κ w (planned.Importing s m at) xs others (Some ks) r c reply mid spent b all may h fine own = absurd h
   step_head κ w (planned.Migrating s m at) xs others None r c reply mid spent b all may h fine own =
       let calm = send_step n goal w (xs ++ others) s m at b in
       let ok : reply ≡ answers.Ok = subst₂ (λ x y. MayReply w x y reply) h.0 h.1 may ∙ fine_reply n goal [] w at s m calm.no_fault in
-      let κ' : Counts = counts_after κ w (Admin at (Migrating s m) answers.Ok) in
-      over κ w reply r at c (Migrating s m) s _ None b others mid.rest xs mid.listed None spent h.0 h.1 h.2 h.3
-      (subst (λ a. StepBy κ w at (Migrating s m) a s (planned.Migrating s m at ∷ (xs ++ others)) None b others xs None spent) (sym ok)
-      (granted κ' w at (Migrating s m) s _ None b others xs None spent calm.no_fault
-      (setslot_stepped κ κ' w (planned.Migrating s m at) xs others spent at s (Migrating s m) b own all (λ p x. refl) refl calm (cond-true _ _ _ (eq-eqb s s refl)) (counts_grow κ w at (Migrating s m) answers.Ok))))
+      let κ' : Counts = counts_after κ w (Admin at (command.Migrating s m) answers.Ok) in
+      over κ w reply r at c (command.Migrating s m) s _ None b others mid.rest xs mid.listed None spent h.0 h.1 h.2 h.3
+      (subst (λ a. StepBy κ w at (command.Migrating s m) a s (planned.Migrating s m at ∷ (xs ++ others)) None b others xs None spent) (sym ok)
+      (granted κ' w at (command.Migrating s m) s _ None b others xs None spent calm.no_fault
+      (setslot_stepped κ κ' w (planned.Migrating s m at) xs others spent at s (command.Migrating s m) b own all (λ p x. refl) refl calm (cond-true _ _ _ (eq-eqb s s refl)) (counts_grow κ w at (command.Migrating s m) answers.Ok))))
   step_head κ w (planned.Migrating s m at) xs others (Some ks) r c reply mid spent b all may h fine own = absurd h
   step_head κ w (planned.SetNode s m at) xs others None r c reply mid spent b all may h fine own =
       let calm = tell_step n goal w (xs ++ others) s m at b in
-      over κ w reply r at c (SetNode s m) s _ None b others mid.rest xs mid.listed None spent h.0 h.1 h.2 h.3
-      (granted κ w at (SetNode s m) s _ None b others xs None spent calm.no_fault
-      (setslot_stepped κ κ w (planned.SetNode s m at) xs others spent at s (SetNode s m) b own all (λ p x. refl) refl calm refl (grows_same κ)))
+      over κ w reply r at c (command.SetNode s m) s _ None b others mid.rest xs mid.listed None spent h.0 h.1 h.2 h.3
+      (granted κ w at (command.SetNode s m) s _ None b others xs None spent calm.no_fault
+      (setslot_stepped κ κ w (planned.SetNode s m at) xs others spent at s (command.SetNode s m) b own all (λ p x. refl) refl calm refl (grows_same κ)))
   step_head κ w (planned.SetNode s m at) xs others (Some ks) r c reply mid spent b all may h fine own = absurd h
   step_head κ w (planned.Stable s at) xs others None r c reply mid spent b all may h fine own =
       let calm = stable_step n goal w (xs ++ others) s at b in
-      over κ w reply r at c (Stable s) s _ None b others mid.rest xs mid.listed None spent h.0 h.1 h.2 h.3
-      (granted κ w at (Stable s) s _ None b others xs None spent calm.no_fault
-      (setslot_stepped κ κ w (planned.Stable s at) xs others spent at s (Stable s) b own all (λ p x. refl) refl calm refl (grows_same κ)))
+      over κ w reply r at c (command.Stable s) s _ None b others mid.rest xs mid.listed None spent h.0 h.1 h.2 h.3
+      (granted κ w at (command.Stable s) s _ None b others xs None spent calm.no_fault
+      (setslot_stepped κ κ w (planned.Stable s at) xs others spent at s (command.Stable s) b own all (λ p x. refl) refl calm refl (grows_same κ)))
   step_head κ w (planned.Stable s at) xs others (Some ks) r c reply mid spent b all may h fine own = absurd h
   step_head κ w (planned.Drain s m t d) xs others None r c reply mid spent b all may h fine own = elim h.2 [
     | inl u ↦
         let none = listing_keys w r m s d c reply [] h.0 h.1 may u.0 in
-        over κ w reply r m c (KeysIn s d) s _ None b others mid.rest xs mid.listed None spent h.0 h.1 u.1 u.2
-        (granted κ w m (KeysIn s d) s _ None b others xs None spent (list_none_step n goal w (xs ++ others) s m t d b none).no_fault
+        over κ w reply r m c (command.KeysIn s d) s _ None b others mid.rest xs mid.listed None spent h.0 h.1 u.1 u.2
+        (granted κ w m (command.KeysIn s d) s _ None b others xs None spent (list_none_step n goal w (xs ++ others) s m t d b none).no_fault
         (drained_stepped κ w xs others spent s m t d b own all none))
     | inr u ↦
         let some = listing_keys w r m s d c reply (u.0 ∷ u.1) h.0 h.1 may u.2 in
-        over κ w reply r m c (KeysIn s d) s _ None b others mid.rest (planned.Drain s m t d ∷ xs) mid.listed (Some (u.0 ∷ u.1)) spent h.0 h.1 u.3 u.4
-        (granted κ w m (KeysIn s d) s _ None b others (planned.Drain s m t d ∷ xs) (Some (u.0 ∷ u.1)) spent (list_some_step n goal w (xs ++ others) s m t d u.0 u.1 b some).no_fault
+        over κ w reply r m c (command.KeysIn s d) s _ None b others mid.rest (planned.Drain s m t d ∷ xs) mid.listed (Some (u.0 ∷ u.1)) spent h.0 h.1 u.3 u.4
+        (granted κ w m (command.KeysIn s d) s _ None b others (planned.Drain s m t d ∷ xs) (Some (u.0 ∷ u.1)) spent (list_some_step n goal w (xs ++ others) s m t d u.0 u.1 b some).no_fault
         (some_stepped κ w xs others spent s m t d u.0 u.1 b own some))
   ]
   step_head κ w (planned.Drain s m t d) xs others (Some ks) r c reply mid spent b all may h fine own =
-      over κ w reply r m c (Migrate ks t) s _ (Some ks) b others mid.rest (planned.Drain s m t d ∷ xs) mid.listed None spent h.0 h.1 h.2 h.3
-      (granted κ w m (Migrate ks t) s _ (Some ks) b others (planned.Drain s m t d ∷ xs) None spent
+      over κ w reply r m c (command.Migrate ks t) s _ (Some ks) b others mid.rest (planned.Drain s m t d ∷ xs) mid.listed None spent h.0 h.1 h.2 h.3
+      (granted κ w m (command.Migrate ks t) s _ (Some ks) b others (planned.Drain s m t d ∷ xs) None spent
       (not_refused_fault w m ks t reply (subst₂ (λ x y. MayReply w x y reply) h.0 h.1 may) fine)
       (batch_stepped κ w xs others spent s m t d ks b own))
 

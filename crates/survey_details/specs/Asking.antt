@@ -1,11 +1,11 @@
 -- How masters are asked for their keys and their replicas.
 use Rattle.std.specs.Prelude.{◌≡◌, ℕ, List, Option, None, Some, Ok}
-use Rattle.cluster_nodes.specs.declared.node_line.NodeLine.{NodeLine}
+use Rattle.listed_nodes.specs.declared.node_line.NodeLine.{NodeLine}
 use Rattle.cluster_views.specs.declared.fault.SurveyFault.{SurveyFault}
 use Rattle.server_commands.specs.Servers.{server_at}
 use Rattle.server_commands.specs.declared.book.Server.{Server}
-use Rattle.server_figures.specs.Asking.{AsksFigures, IsTold}
-use Rattle.server_figures.specs.declared.figures.Figures.{Figures}
+use Rattle.server_infos.specs.Asking.{AsksFigures, IsTold}
+use Rattle.server_infos.specs.declared.figures.Figures.{Figures}
 use Rattle.server_links.specs.Asking.{AsksAt}
 use Rattle.server_links.specs.Streams.{Streams}
 use Rattle.server_links.specs.declared.link.Link as link

@@ -1,7 +1,7 @@
 -- What is printed of the masters of a survey, by what each of them told.
 use Rattle.std.specs.Prelude.{◌≡◌, ℕ, zero, suc, Bool, true, false, cond, List, [], ◌++◌, Option, None, Some}
 use Rattle.cluster_admin.specs.Surveys.{Survey}
-use Rattle.cluster_nodes.specs.declared.node_line.NodeLine.{NodeLine}
+use Rattle.listed_nodes.specs.declared.node_line.NodeLine.{NodeLine}
 use Rattle.server_commands.specs.declared.book.Server.{Server}
 use Rattle.survey_texts.specs.Details.{keys_line, replica_lines, slots_line, untold_replicas}
 use Rattle.survey_texts.specs.Texts.{node_line}

@@ -9,7 +9,7 @@ use byte_texts::Memory;
 use cluster_views::{ServerSurvey, SurveyFault};
 use key_slots::NodeId;
 use server_commands::ServerBook;
-use server_figures::figures_at;
+use server_infos::figures_at;
 use server_links::Link;
 use server_replicas::replicas_at;
 use std::alloc::{AllocError, Global};

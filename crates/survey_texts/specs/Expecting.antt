@@ -5,7 +5,7 @@ use Rattle.std.specs.Prelude.{Some, Result, Ok, Err, codes}
 use Rattle.std.specs.List.{starts_with}
 use Rattle.byte_texts.specs.Parts.{parts}
 use Rattle.byte_texts.specs.Words.{is}
-use Rattle.cluster_nodes.specs.Names.{if_there, is_name}
+use Rattle.listed_nodes.specs.Names.{if_there, is_name}
 use Rattle.key_slots.specs.Numbers.{node_among}
 use Rattle.server_commands.specs.declared.book.Server.{Server}
 use Rattle.survey_texts.specs.declared.expect_fault.ExpectFault.{ExpectFault}

@@ -4,7 +4,7 @@ ghost use Rattle.survey_texts.specs.Details.{keys_line, replica_line, replica_li
 
 use crate::putting::{put, put_long_number, put_number};
 use byte_texts::Memory;
-use cluster_nodes::NodeLine;
+use listed_nodes::NodeLine;
 
 /// Puts how many keys a master has: `  keys 1234`; or `  keys unknown`, if it does not tell that.
 pub fn put_keys_line(out: &mut Vec<u8>, keys: Option<u64>) -> Result<(), Memory>

@@ -4,8 +4,8 @@ use Rattle.std.proofs.Common.{List, [], ◌∷◌, ◌++◌, None, Some, codes, 
 use Rattle.std.proofs.Common.{append_assoc, refl, sym, ap, ◌∙◌, arith}
 use Rattle.std.proofs.lemmas.Bool.{and_parts, not-true}
 use Rattle.cluster_node.specs.Redirections.{ip}
-use Rattle.cluster_nodes.specs.Addresses.{address_in, endpoint_in, endpoint_of, split_last}
-use Rattle.cluster_nodes.specs.Names.{if_there}
+use Rattle.listed_nodes.specs.Addresses.{address_in, endpoint_in, endpoint_of, split_last}
+use Rattle.listed_nodes.specs.Names.{if_there}
 use Rattle.told_nodes.proofs.Numerals.{digits_lack, port_read}
 use Rattle.told_nodes.proofs.Words.{all_appended, cut_once, lacks}
 

@@ -11,8 +11,8 @@ use Rattle.key_slots.specs.declared.slot_range.SlotRange.{SlotRange}
 use Rattle.key_slots.proofs.Longest.{ranges_are_longest}
 use Rattle.cluster_node.specs.Redirections.{id_of}
 use Rattle.cluster_reports.specs.Numbered.{below}
-use Rattle.cluster_nodes.specs.declared.slot_word.SlotWord.{SlotWord}
-use Rattle.cluster_nodes.specs.declared.slot_word.SlotWord.TheVariants.{Slots, Migrating, Importing}
+use Rattle.listed_nodes.specs.declared.slot_word.SlotWord.{SlotWord}
+use Rattle.listed_nodes.specs.declared.slot_word.SlotWord.TheVariants.{Slots, Migrating, Importing}
 use Rattle.told_nodes.specs.ToldLines.{mark_told, ranges_told, slots_of}
 
 pub contains_none : {A : Type 0} (y : A) → Contains [] y → ⊥

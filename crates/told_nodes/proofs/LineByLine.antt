@@ -5,9 +5,9 @@ use Rattle.byte_texts.specs.Parts.{parts}
 use Rattle.byte_texts.proofs.Parting.{parts_some}
 use Rattle.cluster_reports.specs.NodeLines.{node_line, nodes_text}
 use Rattle.cluster_reports.specs.Numbered.{below}
-use Rattle.cluster_nodes.specs.Names.{if_there}
-use Rattle.cluster_nodes.specs.Nodes.{line_in, lines_in}
-use Rattle.cluster_nodes.specs.declared.node_line.NodeLine.{NodeLine}
+use Rattle.listed_nodes.specs.Names.{if_there}
+use Rattle.listed_nodes.specs.Nodes.{line_in, lines_in}
+use Rattle.listed_nodes.specs.declared.node_line.NodeLine.{NodeLine}
 use Rattle.told_nodes.specs.Reading.{NodesAreRead}
 use Rattle.told_nodes.specs.ToldLines.{line_told}
 use Rattle.told_nodes.proofs.OneLine.{IsLine, line_read}

@@ -10,7 +10,7 @@ use Rattle.byte_texts.specs.Hexadecimal.{hex_digit}
 use Rattle.byte_texts.proofs.Numerals.{are_digits, read_number}
 use Rattle.key_slots.specs.Numbers.{slot_in}
 use Rattle.cluster_node.specs.Redirections.{id_of}
-use Rattle.cluster_nodes.specs.Names.{closed_name_in, is_hex, is_name, name_in}
+use Rattle.listed_nodes.specs.Names.{closed_name_in, is_hex, is_name, name_in}
 use Rattle.told_nodes.proofs.Words.{lacks, others_lack}
 
 -- ---- decimal numbers

@@ -10,12 +10,12 @@ use Rattle.key_slots.specs.Ranges.{owner_ranges}
 use Rattle.slot_marks.specs.Tables.{Table}
 use Rattle.cluster_node.specs.Redirections.{id_of, ip}
 use Rattle.cluster_reports.specs.NodeLines.{address_words, bus_of, line_marks, node_line, role_words, word_of}
-use Rattle.cluster_nodes.specs.Addresses.{address_in}
-use Rattle.cluster_nodes.specs.Names.{if_there, name_in}
-use Rattle.cluster_nodes.specs.Nodes.{line_in, line_of, line_with}
-use Rattle.cluster_nodes.specs.SlotWords.{slot_words_in}
-use Rattle.cluster_nodes.specs.declared.node_line.NodeLine.{NodeLine}
-use Rattle.cluster_nodes.specs.declared.slot_word.SlotWord.{SlotWord}
+use Rattle.listed_nodes.specs.Addresses.{address_in}
+use Rattle.listed_nodes.specs.Names.{if_there, name_in}
+use Rattle.listed_nodes.specs.Nodes.{line_in, line_of, line_with}
+use Rattle.listed_nodes.specs.SlotWords.{slot_words_in}
+use Rattle.listed_nodes.specs.declared.node_line.NodeLine.{NodeLine}
+use Rattle.listed_nodes.specs.declared.slot_word.SlotWord.{SlotWord}
 use Rattle.told_nodes.specs.Tables.{IsToldFrom}
 use Rattle.told_nodes.specs.ToldLines.{line_told, marks_told, ranges_told}
 use Rattle.told_nodes.proofs.Addressed.{address_read}

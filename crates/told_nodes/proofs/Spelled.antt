@@ -15,10 +15,10 @@ use Rattle.cluster_node.specs.Redirections.{id_of}
 use Rattle.cluster_reports.specs.NodeLines.{line_marks, mark_of, mark_word, marks_text, range_word, slot_mark, word_of}
 use Rattle.cluster_reports.specs.Numbered.{below}
 use Rattle.cluster_reports.proofs.Lengths.{follow_le}
-use Rattle.cluster_nodes.specs.Names.{if_there}
-use Rattle.cluster_nodes.specs.SlotWords.{slot_word_in, slot_words_in}
-use Rattle.cluster_nodes.specs.declared.slot_word.SlotWord.{SlotWord}
-use Rattle.cluster_nodes.specs.declared.slot_word.SlotWord.TheVariants.{Slots, Migrating, Importing}
+use Rattle.listed_nodes.specs.Names.{if_there}
+use Rattle.listed_nodes.specs.SlotWords.{slot_word_in, slot_words_in}
+use Rattle.listed_nodes.specs.declared.slot_word.SlotWord.{SlotWord}
+use Rattle.listed_nodes.specs.declared.slot_word.SlotWord.TheVariants.{Slots, Migrating, Importing}
 use Rattle.told_nodes.specs.Tables.{NameNodes}
 use Rattle.told_nodes.specs.ToldLines.{mark_told, marks_told, ranges_told, slot_mark_told, slots_of}
 use Rattle.told_nodes.proofs.Numerals.{closed_read, digits_lack, id_lacks, slot_read}

@@ -10,9 +10,9 @@ use Rattle.byte_texts.specs.Hexadecimal.{hex_digit}
 use Rattle.key_slots.specs.Ranges.{owner_ranges}
 use Rattle.slot_marks.specs.Tables.{Table}
 use Rattle.cluster_reports.specs.Numbered.{below}
-use Rattle.cluster_nodes.specs.declared.node_line.NodeLine.{NodeLine}
-use Rattle.cluster_nodes.specs.declared.slot_word.SlotWord.{SlotWord}
-use Rattle.cluster_nodes.specs.declared.slot_word.SlotWord.TheVariants.{Slots, Migrating, Importing}
+use Rattle.listed_nodes.specs.declared.node_line.NodeLine.{NodeLine}
+use Rattle.listed_nodes.specs.declared.slot_word.SlotWord.{SlotWord}
+use Rattle.listed_nodes.specs.declared.slot_word.SlotWord.TheVariants.{Slots, Migrating, Importing}
 use Rattle.told_nodes.specs.Reading.{IdsAreDistinct, IsLineOf, LinesAreTheTable, Marked, Owns}
 use Rattle.told_nodes.specs.Tables.{IsToldFrom}
 use Rattle.told_nodes.specs.ToldLines.{line_told, lines_told, marks_told, ranges_told, slot_mark_told}

@@ -10,9 +10,9 @@ use Rattle.std.specs.List.{Contains}
 use Rattle.slot_marks.specs.Tables.{Marks, Table}
 use Rattle.cluster_node.specs.Redirections.{id_of, ip}
 use Rattle.cluster_reports.specs.NodeLines.{nodes_text}
-use Rattle.cluster_nodes.specs.Nodes.{nodes_of_text}
-use Rattle.cluster_nodes.specs.declared.node_line.NodeLine.{NodeLine}
-use Rattle.cluster_nodes.specs.declared.slot_word.SlotWord.TheVariants.{Slots, Migrating, Importing}
+use Rattle.listed_nodes.specs.Nodes.{nodes_of_text}
+use Rattle.listed_nodes.specs.declared.node_line.NodeLine.{NodeLine}
+use Rattle.listed_nodes.specs.declared.slot_word.SlotWord.TheVariants.{Slots, Migrating, Importing}
 use Rattle.told_nodes.specs.Tables.{IsToldFrom}
 use Rattle.told_nodes.specs.ToldLines.{lines_told}
 

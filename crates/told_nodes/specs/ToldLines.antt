@@ -7,9 +7,9 @@ use Rattle.key_slots.specs.declared.slot_range.SlotRange.{SlotRange}
 use Rattle.slot_marks.specs.Tables.{Table}
 use Rattle.cluster_node.specs.Redirections.{id_of, ip}
 use Rattle.cluster_reports.specs.Numbered.{below}
-use Rattle.cluster_nodes.specs.declared.node_line.NodeLine.{NodeLine}
-use Rattle.cluster_nodes.specs.declared.slot_word.SlotWord.{SlotWord}
-use Rattle.cluster_nodes.specs.declared.slot_word.SlotWord.TheVariants.{Slots, Migrating, Importing}
+use Rattle.listed_nodes.specs.declared.node_line.NodeLine.{NodeLine}
+use Rattle.listed_nodes.specs.declared.slot_word.SlotWord.{SlotWord}
+use Rattle.listed_nodes.specs.declared.slot_word.SlotWord.TheVariants.{Slots, Migrating, Importing}
 
 -- from the first slot to the last
 abbrev pub slots_of : SlotRange → SlotWord

@@ -1,5 +1,5 @@
 use Rattle.std.proofs.Common.{◌∙◌, ap, arith, subst, sym}
-use Rattle.server_clusters.specs.Questions.{asked_owner}
+use Rattle.slot_key_counts.specs.Questions.{asked_owner}
 use Rattle.server_phases.specs.ServerPhases.{IsPhaseAt}
 use Rattle.cluster_inspection.specs.Stranded.{closed_owner}
 use Rattle.cluster_inspection.proofs.Filled.{next_filled, none_filled}

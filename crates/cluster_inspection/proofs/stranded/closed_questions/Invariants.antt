@@ -1,6 +1,6 @@
 use Rattle.std.proofs.Common.{◌≡◌}
-use Rattle.server_clusters.specs.Questions.{asked_owner}
-use Rattle.server_clusters.specs.declared.questions.AskedNodes.TheVariants.{Others}
+use Rattle.slot_key_counts.specs.Questions.{asked_owner}
+use Rattle.slot_key_counts.specs.declared.questions.AskedNodes.TheVariants.{Others}
 use Rattle.server_phases.specs.ServerPhases.{ServerPhases, ShowsPhases}
 use Rattle.cluster_inspection.specs.Stranded.{closed_owner}
 use Rattle.cluster_inspection.proofs.Filled.{AreFilled}

@@ -1,6 +1,6 @@
 use Rattle.std.proofs.Common.{subst}
-use Rattle.server_clusters.specs.Rounds.{Told}
-use Rattle.server_clusters.specs.Tables.{told_in}
+use Rattle.slot_key_counts.specs.Rounds.{Told}
+use Rattle.slot_key_counts.specs.Tables.{told_in}
 use Rattle.cluster_inspection.specs.Stranded.{HasLines, tells}
 use Rattle.cluster_inspection.proofs.StrandedLines.{stranded_put, told_of}
 use Rattle.cluster_inspection.proofs.stranded.lines_in.Goals as goal

@@ -1,5 +1,5 @@
 use Rattle.std.proofs.lemmas.Result.{IfOk-weaker}
-use Rattle.server_clusters.specs.Tables.{told_in}
+use Rattle.slot_key_counts.specs.Tables.{told_in}
 use Rattle.cluster_inspection.proofs.Same.{told_begins}
 use Rattle.cluster_inspection.proofs.stranded.told_lines.Goals as goal
 

@@ -1,5 +1,5 @@
 use Rattle.std.proofs.Common.{◌≡◌, List, length}
-use Rattle.cluster_nodes.specs.declared.node_line.NodeLine.{NodeLine}
+use Rattle.listed_nodes.specs.declared.node_line.NodeLine.{NodeLine}
 use Rattle.cluster_views.specs.Naming.{AreToldIn}
 use Rattle.cluster_views.specs.Numbers.{first_given, numbers_to}
 use Rattle.cluster_views.specs.Views.{unaware_fault}

@@ -1,6 +1,6 @@
 use Rattle.std.proofs.Common.{◌≡◌, length}
 use Rattle.std.specs.List.{list_all}
-use Rattle.cluster_nodes.specs.Names.{is_name}
+use Rattle.listed_nodes.specs.Names.{is_name}
 use Rattle.command_words.specs.Ids.{are_ids}
 use Rattle.command_words.proofs.ids.are_ids.Given as goal
 

@@ -1,7 +1,7 @@
 use Rattle.std.proofs.Common.{rules, ap, ◌∙◌}
 use Rattle.plan_language.specs.Lines.{plan_commands}
 use Rattle.plan_changes.specs.Loads.{load_of}
-use Rattle.server_figures.specs.Asking.{AsksFigures}
+use Rattle.server_infos.specs.Asking.{AsksFigures}
 use Rattle.plan_previews.proofs.Servers.{are_servers}
 use Rattle.plan_previews.proofs.counting.counted.Goals as goal
 

@@ -12,9 +12,9 @@ returns-in-Ok-true-clause-heard g t c =
     let h : Hearer = c.hearer-item.result in
     let is : hearers ≡ h ∷ later_ones hearers = first_one hearers h (omega arith) c.hearer-item.is in
     let asks = AsksNode (record { gave = g.I.ByteIn.gave; took = g.O.ByteOut.took }) in
-    hears_more asks c.args.setup.now c.args.course.now hearers (later_ones hearers) h c.args.links.now.items
+    hears_more asks c.args.setup.now c.args.history.now hearers (later_ones hearers) h c.args.links.now.items
     c.hears.new.links.items c.hear_all.new.links.items c.hear_all.result is
-    (subst (λ b. Hears asks c.args.setup.now c.args.course.now h c.args.links.now.items (Ok b) c.hears.new.links.items)
+    (subst (λ b. Hears asks c.args.setup.now c.args.history.now h c.args.links.now.items (Ok b) c.hears.new.links.items)
     c.in-Ok-true.field-0-test c.in-Ok-true.ensures.hears)
     c.hear_all.ensures.heard
 
@@ -27,9 +27,9 @@ returns-in-Ok-false-clause-heard g t c =
     let said : c.in-Some.text ≡ late_text h =
     last_text c.args.texts.now.items c.pop.new.self.items c.in-Some.text hearers (later_ones hearers) h
     c.requires.texts c.in-Some.ensures.items is in
-    hears_late asks c.args.setup.now c.args.course.now hearers (later_ones hearers) h c.args.links.now.items
+    hears_late asks c.args.setup.now c.args.history.now hearers (later_ones hearers) h c.args.links.now.items
     c.hears.new.links.items c.in-Some.text is said
-    (subst (λ b. Hears asks c.args.setup.now c.args.course.now h c.args.links.now.items (Ok b) c.hears.new.links.items)
+    (subst (λ b. Hears asks c.args.setup.now c.args.history.now h c.args.links.now.items (Ok b) c.hears.new.links.items)
     c.in-Ok-false.field-0-test c.in-Ok-false.ensures.hears)
 
 pub returns-in-Err-clause-heard : goal.returns-in-Err-clause-heard
@@ -38,5 +38,5 @@ returns-in-Err-clause-heard g t c =
     let h : Hearer = c.hearer-item.result in
     let is : hearers ≡ h ∷ later_ones hearers = first_one hearers h (omega arith) c.hearer-item.is in
     hears_none (AsksNode (record { gave = g.I.ByteIn.gave; took = g.O.ByteOut.took })) c.args.setup.now
-    c.args.course.now hearers (later_ones hearers) h c.args.links.now.items c.hears.new.links.items c.in-Err.halt is
+    c.args.history.now hearers (later_ones hearers) h c.args.links.now.items c.hears.new.links.items c.in-Err.port_stop is
     c.in-Err.ensures.hears

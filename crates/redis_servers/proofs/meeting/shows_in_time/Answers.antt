@@ -9,7 +9,7 @@ loop-preserved g c =
     let before = c.loop.invariant in (
       suc before.0,
       one_look_more (AsksNode (record { gave = g.I.ByteIn.gave; took = g.O.ByteOut.took })) c.args.setup.now.credentials nodes_question
-          (Shows c.args.setup.now c.args.course.now c.args.duty.now) c.args.node before.0 c.args.links.now.items
+          (Shows c.args.setup.now c.args.history.now c.args.duty.now) c.args.node before.0 c.args.links.now.items
           c.loop.links.items c.look_for.new.links.items c.in-Ok-false.field-0 before.1 c.in-Ok-false.ensures.turn c.in-Ok-false.field-0-test,
       search rules,
     )

@@ -8,5 +8,5 @@ use Rattle.redis_servers.proofs.meeting.shows_in_time.Given as goal
 abbrev pub invariant-loop : goal.invariant-loop
 invariant-loop g l = (k : ℕ)
     × LookTurns (AsksNode (record { gave = g.I.ByteIn.gave; took = g.O.ByteOut.took })) l.setup.credentials
-    nodes_question (Shows l.setup l.course l.duty) l.node k l.initial.links.items l.links.items
+    nodes_question (Shows l.setup l.history l.duty) l.node k l.initial.links.items l.links.items
     × (vec_len l.links ≡ vec_len l.initial.links)

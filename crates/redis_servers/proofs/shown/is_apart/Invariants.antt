@@ -4,4 +4,4 @@ use Rattle.redis_servers.proofs.shown.is_apart.Given as goal
 
 abbrev pub invariant-loop-number : goal.invariant-loop-number
 invariant-loop-number l =
-    (z : ℕ) → z < l.number → clash l.book l.target l.course.receivers l.nodes l.node z ≡ false
+    (z : ℕ) → z < l.number → clash l.book l.target l.history.receivers l.nodes l.node z ≡ false

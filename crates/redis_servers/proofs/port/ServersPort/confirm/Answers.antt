@@ -9,7 +9,7 @@ use Rattle.redis_servers.proofs.port.ServersPort.confirm.Goals as goal
 
 pub meet-requires-clause-there : goal.meet-requires-clause-there
 meet-requires-clause-there g c =
-    there_after c.args.self.now.course c.args.self.now.setup.survey _ c.args.node c.args.command.now c.args.after.now
+    there_after c.args.self.now.history c.args.self.now.setup.survey _ c.args.node c.args.command.now c.args.after.now
     c.requires.after (sym c.args.self.now.rows) c.requires.node
 
 pub spread-requires-clause-there : goal.spread-requires-clause-there
@@ -22,16 +22,16 @@ spread-requires-clause-there g c =
 pub returns-then-not-is_done-clause-confirms : goal.returns-then-not-is_done-clause-confirms
 returns-then-not-is_done-clause-confirms g c =
     undone_stands (AsksNode (record { gave = g.I.ByteIn.gave; took = g.O.ByteOut.took })) c.args.self.now.setup
-    c.args.self.now.course c.args.node c.args.command.now c.args.outcome c.args.outcome.given
+    c.args.self.now.history c.args.node c.args.command.now c.args.outcome c.args.outcome.given
     c.args.self.now.links.items refl
     (sym c.is_done.ensures ∙ c.if-not-is_done.true)
 
 pub returns-in-Ok-clause-confirms : goal.returns-in-Ok-clause-confirms
 returns-in-Ok-clause-confirms g c =
     done_stands (AsksNode (record { gave = g.I.ByteIn.gave; took = g.O.ByteOut.took })) c.args.self.now.setup
-    c.args.self.now.course c.args.node c.args.command.now c.meet.new.self.setup c.meet.new.self.course c.args.outcome
+    c.args.self.now.history c.args.node c.args.command.now c.meet.new.self.setup c.meet.new.self.history c.args.outcome
     c.args.after.now c.args.spread.hearers.items c.args.self.now.links.items c.meet.new.self.links.items
     c.spread.new.self.links.items c.spread.result.given c.spread.result.said
     (done_is c.args.outcome.given (sym c.is_done.ensures ∙ c.if-not-is_done.false))
-    c.requires.after c.requires.hearers c.meet.ensures.setup c.meet.ensures.course c.in-Ok.ensures.met
+    c.requires.after c.requires.hearers c.meet.ensures.setup c.meet.ensures.history c.in-Ok.ensures.met
     c.spread.ensures.spreads

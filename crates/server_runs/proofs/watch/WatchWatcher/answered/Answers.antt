@@ -20,7 +20,7 @@ returns g c =
       ap (λ (r : RunRecord g.row.L.Denot). r.counts) c.pass_time.ensures.kept.run ∙ counts,
       ap (λ (r : RunRecord g.row.L.Denot). r.nodes) c.pass_time.ensures.kept.run ∙ log.nodes,
       (c.pass_time.ensures.kept.pace ∙ log.pace, c.pass_time.ensures.kept.moves ∙ log.moves),
-      paced_on g.S.Surroundings.tells g.S.Surroundings.waits c.args.self.now.pace c.log_reply.new.self.pace c.args.self.now.run.kind
+      paced_on g.S.RunContext.tells g.S.RunContext.waits c.args.self.now.pace c.log_reply.new.self.pace c.args.self.now.run.kind
           c.log_reply.new.self.run.kind (counted c.args.self.now.run.kind c.args.reply.now c.args.self.now.run.counts) c.counted-self.result
           log.pace log.kind counts c.pass_time.ensures.paced,
     )

@@ -1,6 +1,0 @@
-use Rattle.std.proofs.Common.{◌≡◌, ℕ, ◌<◌, ◌&&◌, ◌==◌, not, false}
-use Rattle.redis_servers.specs.Courses.{holds}
-use Rattle.redis_servers.proofs.course.Course.holds_no_other.Given as goal
-
-abbrev pub invariant-loop-number : goal.invariant-loop-number
-invariant-loop-number l = (s : ℕ) → s < l.number → (not (s == l.slot) && holds l.self l.survey l.node s) ≡ false

@@ -1,6 +1,0 @@
-use Rattle.std.proofs.Common.{rules}
-use Rattle.server_clusters.proofs.Placed.{blank_owners}
-use Rattle.server_clusters.proofs.questions.SlotQuestions.new.Goals as goal
-
-pub returns-clause-none : goal.returns-clause-none
-returns-clause-none c = blank_owners c.in_ok-owners.owners.items 16384 (c.in_ok-owners.ensures.items_if_clones_equal (search rules))

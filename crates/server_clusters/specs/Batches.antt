@@ -1,7 +1,0 @@
--- How many requests a batch has.
-use Rattle.std.specs.Prelude.{◌≤◌, ℕ, Bool, length}
-use Rattle.server_clusters.specs.Rounds.{batch}
-
--- whichever of the slots of a round are asked for
-abbrev pub AreSmall : Type 0
-AreSmall = (asked : ℕ → Bool) (round : ℕ) → length (batch asked round 256) ≤ 256

@@ -1,0 +1,16 @@
+use Rattle.std.proofs.Common.{rules, ◌≡◌, ◌<◌, length, ap, subst, slice_set, refl, Some}
+use Rattle.std.specs.Prelude.{slice_get}
+use Rattle.std.proofs.lemmas.Option.{slice_get_read}
+use Rattle.server_infos.proofs.asking.figures_at.Goals as goal
+
+pub returns-clause-told : goal.returns-clause-told
+returns-clause-told g c =
+    let same : c.from.result ≡ c.args.node = search rules in
+    let within : c.from.result < length c.args.links.now.items = search rules in (
+      c.index_mut-link.result.now,
+      c.figures_of.new.link,
+      subst (λ i. slice_get c.args.links.now.items i ≡ Some c.index_mut-link.result.now) same
+          (slice_get_read c.args.links.now.items (length c.args.links.now.items) c.from.result c.index_mut-link.result.now refl within c.index_mut-link.ensures.value),
+      c.figures_of.ensures,
+      ap (λ i. slice_set c.args.links.now.items i c.figures_of.new.link) same,
+    )
