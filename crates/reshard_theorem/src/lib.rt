@@ -1,12 +1,12 @@
 //! The theorem on live resharding, over the definitions alone: what holds of every run that a legal plan drives.
 //!
-//! Start at specs/Headline: `Headline` is the statement, and specs/ServerHeadline has it for servers. Of the proofs each
-//! line stands on those above it:
+//! Start at specs/Headline: `Headline` is the statement, and specs/ServerHeadline has it for servers. Of the proofs
+//! each line stands on those above it:
 //!
 //! | Files of proofs/ | Subject |
 //! |---|---|
-//! | Keys, Listing, Split, Verdicts, Slotwise, Shown | keys and listings, contents over nodes, verdicts, worlds slot by slot |
-//! | Served, Asks, Answered, Driven, Unrolled, Unique | replies of a node, which runs a plan drives, phases are unique |
+//! | Keys, Listing, Split, Verdicts, Slotwise, Shown | keys, listings, contents over nodes, verdicts, worlds by slots |
+//! | Served, Asks, Answered, Driven, Unrolled, Unique | replies of a node, runs that a plan drives |
 //! | Phases, Counting, Tables | a slot's phases and what holds in each, rounds of a drain, tables |
 //! | Base, Turns, Servers | the invariant, what each command does to a phase, what servers may reply |
 //! | Admins, Clients, HonestClients, Stops | one event keeps the invariant, and where a run stops |

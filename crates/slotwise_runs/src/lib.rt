@@ -1,6 +1,7 @@
 //! The headline slot by slot: in whatever order the slots of a plan are moved, also several at once.
 //!
-//! Start at specs/Seen (what is seen of each slot) and specs/Headline. Of the proofs each line stands on those above it:
+//! Start at specs/Seen (what is seen of each slot) and specs/Headline. Of the proofs each line stands on those above
+//! it:
 //!
 //! | Files of proofs/ | Subject |
 //! |---|---|
