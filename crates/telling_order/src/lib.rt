@@ -5,7 +5,7 @@
 //!
 //! | Files of proofs/ | Subject |
 //! |---|---|
-//! | Blocks, Orders, Owners, StillLeft, Unrollings | neighbouring commands, orders, owners, and what is left at a stop |
+//! | Blocks, Orders, Owners, StillLeft, Unrollings | neighbouring commands, orders, owners, what is left at a stop |
 //! | Swaps, Parts, Costs | two commands in the other order: parts, legality and costs |
 //! | Plans, Once | plans in another order, and nodes that are told in one go |
 //! | OneGo, SeenCalls | runs in one go, and what is seen of a plan |
