@@ -8,8 +8,7 @@ use Rattle.command_words.proofs.command_line.drawing_from.Goals as goal
 pub returns-in-Even-clause-command : goal.returns-in-Even-clause-command
 returns-in-Even-clause-command c =
     fault_asked (codes "draw") (rows_of (found_of c.args.given.now)) NowAlone c.wrong.result (
-      c.in-Even.field-0,
-      subst (HasStart (rows_of (found_of c.args.given.now))) c.in-Even.is c.requires.start,
+      (subst (HasStart (rows_of (found_of c.args.given.now))) c.in-Even.is c.requires.start).1.0,
       sym c.flag_in.ensures ∙ c.if-not-flag_in.false,
     ) c.wrong.ensures
 

@@ -7,8 +7,8 @@ use Rattle.command_words.proofs.command_line.explain_command.Goals as goal
 pub returns-clause-shape : goal.returns-clause-shape
 returns-clause-shape c =
     let start_is : app_of c.after_help-command.result ≡ new_app (codes "explain") = search rules in
-    let rules_are : map rule_of c.in_ok-options.options.items ≡ (explain c.args.servers).rules =
+    let rules_are : map rule_of c.in_ok-options.options.items ≡ (explain c.args.kind).rules =
     ap (map rule_of) c.in_ok-options.ensures.items
-    ∙ ap₂ ◌∷◌ c.nodes_option.ensures.rule (ap₂ ◌∷◌ c.even_option.ensures.rule (ap₂ ◌∷◌ c.cluster_option.ensures.rule (ap₂ ◌∷◌ c.expect_option.ensures.rule (ap₂ ◌∷◌ c.json_flag.ensures.rule refl)))) in
+    ∙ ap₂ ◌∷◌ c.nodes_option.ensures.rule (ap₂ ◌∷◌ c.even_option.ensures.rule (ap₂ ◌∷◌ c.cluster_option.ensures.rule (ap₂ ◌∷◌ c.expect_option.ensures.rule (ap₂ ◌∷◌ c.survey_option.ensures.rule (ap₂ ◌∷◌ c.json_flag.ensures.rule refl))))) in
     IfOk-weaker c.with_options.result _ _ (λ command is. ap (λ (a : App). a.top)
     (is ∙ ap₂ (fold with_rule) start_is rules_are)) c.with_options.ensures.app
