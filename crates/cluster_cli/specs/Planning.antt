@@ -9,7 +9,7 @@ use Rattle.command_words.specs.declared.usage.DrainWords.{DrainWords}
 use Rattle.command_words.specs.declared.usage.RebalanceWords.{RebalanceWords}
 use Rattle.command_words.specs.declared.usage.ReshardWords.{ReshardWords}
 use Rattle.command_words.specs.declared.usage.Start.{Start}
-use Rattle.command_words.specs.declared.usage.Start.TheVariants.{Cluster, Even}
+use Rattle.command_words.specs.declared.usage.Start.TheVariants.{Cluster, Even, Survey}
 use Rattle.key_slots.specs.Owners.{Owners}
 use Rattle.cluster_inspection.specs.Faults.{naming_fault_text}
 use Rattle.cluster_inspection.specs.Naming.{IsUnnamed, named}
@@ -31,13 +31,17 @@ misnamed_nodes = codes "error: --from is all or nodes as n0,n2, --to is a node a
 abbrev pub misnamed_drain : List ℕ
 misnamed_drain = codes "error: --from and --to are nodes as n0,n2, and each is below --nodes\n"
 
--- by where the plan starts: at a cluster of servers nodes may be named
+abbrev pub misnamed_some : List ℕ
+misnamed_some =
+    codes "error: --weights is one weight for each node, 0 to 1000, as 2,1,1, or the weights of some, "
+    ++ codes "each node once, as n1=0,n2=2\n"
+
+-- by where the plan starts: at a cluster of servers, or by its survey, nodes may be named
 abbrev pub misnamed_weights : Start → List ℕ
 misnamed_weights (Even s) =
     codes "error: --weights is one weight for each of --nodes, 0 to 1000, with commas between them\n"
-misnamed_weights (Cluster g) =
-    codes "error: --weights is one weight for each node, 0 to 1000, as 2,1,1, or the weights of some, "
-    ++ codes "each node once, as n1=0,n2=2\n"
+misnamed_weights (Cluster g) = misnamed_some
+misnamed_weights (Survey path) = misnamed_some
 
 -- ---- what is said, and the status of that
 

@@ -104,7 +104,7 @@ fn misnamed_weights(start: &Start) -> &'static str
         Start::Even(_) => {
             "error: --weights is one weight for each of --nodes, 0 to 1000, with commas between them\n"
         }
-        Start::Cluster(_) => {
+        Start::Cluster(_) | Start::Survey(_) => {
             "error: --weights is one weight for each node, 0 to 1000, as 2,1,1, or the weights of some, \
              each node once, as n1=0,n2=2\n"
         }

@@ -8,8 +8,8 @@ use crate::weights_by_name::weights_of_some;
 use command_words::{RebalanceWords, Start};
 use std::alloc::{AllocError, Global};
 
-/// The weight of each node of a cluster of so many: as the words list them, or 1. At a cluster of servers the words may
-/// also give some nodes theirs by name.
+/// The weight of each node of a cluster of so many: as the words list them, or 1. At a cluster of servers, or by its
+/// survey, the words may also give some nodes theirs by name.
 pub fn weights_asked(
     words: &RebalanceWords,
     alloc: Global,
@@ -23,7 +23,9 @@ pub fn weights_asked(
         return Ok(Some(weights));
     }
     match (&words.start, &words.weights) {
-        (Start::Cluster(_), Some(text)) => weights_of_some(alloc, text.as_bytes(), nodes),
+        (Start::Cluster(_) | Start::Survey(_), Some(text)) => {
+            weights_of_some(alloc, text.as_bytes(), nodes)
+        }
         _ => Ok(None),
     }
 }
