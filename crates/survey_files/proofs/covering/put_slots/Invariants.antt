@@ -1,15 +1,11 @@
-use Rattle.std.proofs.Common.{◌≡◌, ◌+◌, ◌<◌, ◌≤◌, ◌&&◌, ℕ, None, Some, cond, max, true}
-use Rattle.std.specs.Prelude.{nat_le, nat_lt, slice_index_or}
-use Rattle.std.specs.Option.{option_or}
+use Rattle.std.proofs.Common.{◌+◌, ◌≤◌, max}
+use Rattle.survey_files.proofs.Filling.{ArePut}
 use Rattle.survey_files.proofs.covering.put_slots.Given as goal
 
--- the slots before this one had no owner, and have one
+-- the slots before this one were put
 abbrev pub invariant-loop-slot : goal.invariant-loop-slot
 invariant-loop-slot l = record {
-  put : (s : ℕ) → s < 16384 → slice_index_or l.row s None ≡ option_or (slice_index_or l.initial.row s None)
-      (cond (nat_le l.fn.first s && nat_lt s l.slot) (Some l.owner) None);
-  free : (s : ℕ) → s < 16384 → (nat_le l.fn.first s && nat_lt s l.slot) ≡ true
-      → slice_index_or l.initial.row s None ≡ None;
+  put : ArePut l.fn.first l.slot l.owner l.initial.row l.row;
   within : l.slot ≤ max l.fn.first (l.fn.last + 1);
   from : l.fn.first ≤ l.slot;
 }
