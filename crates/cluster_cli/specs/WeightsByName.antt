@@ -37,7 +37,7 @@ weights_of_some nodes text =
 
 -- ---- what a command asks for
 
--- by name at a cluster of servers, or by its survey
+-- by name at a cluster of servers or from a survey
 abbrev pub weights_by_name : (nodes : ℕ) → Start → Option (List ℕ) → Option (List ℕ)
 weights_by_name nodes (Even s) text = None
 weights_by_name nodes (Cluster g) text = option_and_then (weights_of_some nodes) text

@@ -3,6 +3,7 @@ pub mod Attempts
 pub mod Batches
 pub mod Emptied
 pub mod Ends
+pub mod LogStarts
 pub mod Looking
 pub mod Operators
 pub mod Preparing

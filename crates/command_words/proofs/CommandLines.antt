@@ -26,6 +26,7 @@ use Rattle.command_words.proofs.Options.{apply_found, drain_found, draw_found, e
 use Rattle.command_words.proofs.Options.{forget_found, rebalance_found, reshard_found, resume_found, serve_found}
 use Rattle.command_words.proofs.Options.{starts_found, survey_found}
 use Rattle.command_words.specs.declared.start_kind.StartKind.{StartKind}
+use Rattle.command_words.specs.declared.start_kind.StartKind.TheVariants.{Even}
 use Rattle.command_words.proofs.Options.{leaf as options}
 use Rattle.command_words.proofs.Walks.{neither}
 use Rattle.command_words.specs.Clusters.{AreApplyRows, HasApply}
@@ -40,7 +41,7 @@ use Rattle.command_words.specs.Showing.{AreDrawRows, AreExplainRows, HasDraw, Ha
 use Rattle.command_words.specs.Starts.{AreStartRows, HasStart}
 use Rattle.command_words.specs.declared.sizes.Sizes.{Sizes}
 use Rattle.command_words.specs.declared.faults.OptionFault.{OptionFault}
-use Rattle.command_words.specs.declared.faults.OptionFault.TheVariants.{NoAddress, NoCluster, NoCount, NoId, NowAlone}
+use Rattle.command_words.specs.declared.faults.OptionFault.TheVariants.{NoAddress, NoCluster, NoCount, NoId, NowAlone, NoLog, SurveyBeside, TwoLogStarts}
 use Rattle.command_words.specs.declared.faults.OptionFault.TheVariants.{TwoStarts, Uneven}
 use Rattle.command_words.specs.CommandLine.{EndsLine, IsCommand, IsFaultLine, IsMet, IsMetAtFault, IsNoOther}
 use Rattle.command_words.specs.CommandLine.{HasWholeLines, command_in, start_kind, AsksFor, IsCallForHelp}
@@ -69,7 +70,7 @@ or_false : (b : Bool) → b || false ≡ true → b ≡ true
 or_false true e = refl
 or_false false e = e
 
--- in the one form of the command line or the other
+-- in one of the forms of the command line
 abbrev app : (kind : StartKind) → App
 app kind = built (reshard kind)
 
@@ -82,9 +83,9 @@ Met = Option (Text × List Row)
 abbrev command_by : (kind : StartKind) → Words → Met
 command_by kind words = subcommand_of (reshard kind) (codes "reshard" ∷ words)
 
--- what is above the subcommands is the same in both
+-- what is above the subcommands is the same in each
 abbrev above : App
-above = app false
+above = app Even
 
 abbrev names : Names
 names = names_of above
@@ -625,7 +626,17 @@ no_fault NoCount h =
     let none : None ≡ Some h.0 = h.1 in
     cc
 no_fault NowAlone h =
-    let none : None ≡ Some h.0.nodes = h.1.0.0 in
+    let is : false ≡ true = h.1 in
+    cc
+no_fault SurveyBeside h = cc
+no_fault TwoLogStarts h =
+    let is : false ≡ true = h.0 in
+    cc
+no_fault NoLog (none, inl given) =
+    let is : false ≡ true = given in
+    cc
+no_fault NoLog (none, inr given) =
+    let is : false ≡ true = given in
     cc
 
 -- nor is a rehearsal a subcommand whose options have a fault
@@ -1205,6 +1216,9 @@ fault_line : (fault : OptionFault) → EndsLine (fault_text fault)
 fault_line (Uneven s) = uneven_line s
 fault_line TwoStarts = (codes "error: --cluster stands in place of --nodes and --even", refl)
 fault_line NoCluster = (codes "error: --expect goes with --cluster", refl)
+fault_line SurveyBeside = (codes "error: --survey stands in place of --cluster, --nodes and --even", refl)
+fault_line TwoLogStarts = (codes "error: --append and --overwrite do not go together", refl)
+fault_line NoLog = (codes "error: --append and --overwrite go with --log", refl)
 fault_line NowAlone = (codes "error: --now goes with --cluster", refl)
 fault_line NoCount = (codes "error: --slots is a number, 0 to 16384, or all", refl)
 fault_line NoAddress = (codes "error: --cluster is 1 to 8 addresses as 127.0.0.1:7000, with commas between them", refl)

@@ -18,15 +18,17 @@ can_ask command =
     || (bytes_eq command (codes "plan-rebalance") || bytes_eq command (codes "plan-drain")))))))))
 
 -- the word says who owns the slots, asks for help, or ends the options
-abbrev pub is_start_word : List ℕ → Bool
-is_start_word word =
-    is_cluster_word word
-    || (is_survey_word word
-    || (bytes_eq word (codes "--nodes")
+abbrev pub is_size_word : List ℕ → Bool
+is_size_word word =
+    bytes_eq word (codes "--nodes")
     || (bytes_eq (take 8 word) (codes "--nodes=")
-    || (bytes_eq word (codes "--even")
-    || (bytes_eq (take 7 word) (codes "--even=")
-    || (bytes_eq word (codes "--help") || (bytes_eq word (codes "-h") || bytes_eq word (codes "--"))))))))
+    || (bytes_eq word (codes "--even") || bytes_eq (take 7 word) (codes "--even=")))
+
+abbrev pub ends_options : List ℕ → Bool
+ends_options word = bytes_eq word (codes "--help") || (bytes_eq word (codes "-h") || bytes_eq word (codes "--"))
+
+abbrev pub is_start_word : List ℕ → Bool
+is_start_word word = is_cluster_word word || (is_survey_word word || (is_size_word word || ends_options word))
 
 abbrev pub has_no_start : Words → Bool
 has_no_start words = not (list_any is_start_word words)

@@ -308,7 +308,8 @@ fn drawing_from(alloc: Global, given: &ArgMatches, start: Start) -> Result<Usage
     }
     match start {
         Start::Cluster(cluster) => Ok(Usage::DrawNow(cluster)),
-        Start::Even(_) | Start::Survey(_) => wrong(alloc, OptionFault::NowAlone),
+        Start::Even(_) => wrong(alloc, OptionFault::NowAlone),
+        Start::Survey(_) => wrong(alloc, OptionFault::NowAlone),
     }
 }
 

@@ -1,7 +1,7 @@
 //! A cluster that the environment names, in place of `--cluster`.
 ghost use Rattle.std.specs.Prelude.{◌≡◌, ◌++◌, ◌∷◌, [], IfOk, codes};
 ghost use Rattle.command_words.specs.CommandLine.{texts};
-ghost use Rattle.command_words.specs.Environment.{can_ask, has_no_start, is_start_word, takes_cluster};
+ghost use Rattle.command_words.specs.Environment.{can_ask, ends_options, has_no_start, is_size_word, is_start_word, takes_cluster};
 
 use crate::command_line::{is_cluster_word, is_survey_word};
 use std::alloc::{AllocError, Global};
@@ -67,13 +67,22 @@ fn has_no_start(words: &[String]) -> bool
 fn is_start_word(word: &[u8]) -> bool
     ensures { result ≡ is_start_word word.now }
 {
-    is_cluster_word(word)
-        || is_survey_word(word)
-        || word == b"--nodes".as_slice()
+    is_cluster_word(word) || is_survey_word(word) || is_size_word(word) || ends_options(word)
+}
+
+/// `--nodes` or `--even`, by itself or with its value in the same word.
+fn is_size_word(word: &[u8]) -> bool
+    ensures { result ≡ is_size_word word.now }
+{
+    word == b"--nodes".as_slice()
         || word.starts_with(b"--nodes=".as_slice())
         || word == b"--even".as_slice()
         || word.starts_with(b"--even=".as_slice())
-        || word == b"--help".as_slice()
-        || word == b"-h".as_slice()
-        || word == b"--".as_slice()
+}
+
+/// Whether the word asks for help, or ends the options.
+fn ends_options(word: &[u8]) -> bool
+    ensures { result ≡ ends_options word.now }
+{
+    word == b"--help".as_slice() || word == b"-h".as_slice() || word == b"--".as_slice()
 }

@@ -17,6 +17,7 @@ mod stranded;
 mod strange;
 mod strange_slot;
 mod strangeness;
+mod told_first;
 
 pub use key_counts::KeyCounts;
 pub use opening::open_survey;

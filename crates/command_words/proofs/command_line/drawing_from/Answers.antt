@@ -14,3 +14,13 @@ returns-in-Even-clause-command c =
 
 pub returns-in-Even-clause-lines : goal.returns-in-Even-clause-lines
 returns-in-Even-clause-lines c = fault_lines NowAlone c.wrong.result c.wrong.ensures
+
+pub returns-in-Survey-clause-command : goal.returns-in-Survey-clause-command
+returns-in-Survey-clause-command c =
+    fault_asked (codes "draw") (rows_of (found_of c.args.given.now)) NowAlone c.wrong.result (
+      (subst (HasStart (rows_of (found_of c.args.given.now))) c.in-Survey.is c.requires.start).1.0,
+      sym c.flag_in.ensures ∙ c.if-not-flag_in.false,
+    ) c.wrong.ensures
+
+pub returns-in-Survey-clause-lines : goal.returns-in-Survey-clause-lines
+returns-in-Survey-clause-lines c = fault_lines NowAlone c.wrong.result c.wrong.ensures
