@@ -35,6 +35,8 @@ mod stopping;
 #[cfg(test)]
 mod stranded;
 #[cfg(test)]
+mod surveys;
+#[cfg(test)]
 mod telling;
 #[cfg(test)]
 mod versions;

@@ -1,3 +1,4 @@
 pub mod Covered
 pub mod Filling
+pub mod Numbered
 pub mod Telling

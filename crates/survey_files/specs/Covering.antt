@@ -50,8 +50,8 @@ abbrev pub uncovered : List SlotRange → Option ℕ
 uncovered rs = find (λ s. is_none (owner_in rs s)) (numbers_to 16384)
 
 -- the table of a cluster of so many nodes in which each slot has the owner of its one range
-pub record IsCovered (rs : List SlotRange) (nodes : ℕ) (o : Owners) : Type 0 where
-  pub nodes : o.nodes ≡ nodes
+pub record IsCovered (rs : List SlotRange) (count : ℕ) (o : Owners) : Type 0 where
+  pub nodes : o.nodes ≡ count
   pub apart : AreApart rs (length rs)
   pub owners : (s : ℕ) → s < 16384 → owner_in rs s ≡ Some (slice_index o.owners s)
 

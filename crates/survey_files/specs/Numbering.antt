@@ -20,12 +20,15 @@ with_owner k n r = record r { owner = other_number k n r.owner }
 abbrev pub exchanged : (k n : ℕ) → Told → Told
 exchanged k n told = record told { servers = swap told.servers k n; ranges = map (with_owner k n) told.ranges }
 
+-- one that stands at its place stays
+abbrev pub placed : (k n : ℕ) → Told → Result Told FileFault
+placed k n told = cond (k == n) (Ok told) (Ok (exchanged k n told))
+
 -- the server k becomes the node of this name
 abbrev pub put_at : ℕ × List ℕ → Told → (k : Option ℕ) → Result Told FileFault
 put_at p told None = Err (MissingNode p.0 p.1)
-put_at p told (Some k) = cond (nat_lt p.0 (length told.servers))
-    (cond (k == p.0) (Ok told) (Ok (exchanged k p.0 told)))
-    (Err (BeyondMasters p.0 (length told.servers)))
+put_at p told (Some k) =
+    cond (nat_lt p.0 (length told.servers)) (placed k p.0 told) (Err (BeyondMasters p.0 (length told.servers)))
 
 -- so does that of each name, one after the other
 abbrev pub numbered : Names → Told → Result Told FileFault

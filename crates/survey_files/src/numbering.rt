@@ -1,9 +1,11 @@
 //! Ranges of slots whose nodes change places.
-ghost use Rattle.std.specs.Prelude.{◌≡◌, IfOk, map};
+ghost use Rattle.std.specs.Prelude.{◌≡◌, ◌<◌, IfOk, length, map, vec_len};
+ghost use Rattle.std.specs.List.{swap};
 ghost use Rattle.survey_files.specs.Numbering.{other_number, with_owner};
 
 use byte_texts::Memory;
 use key_slots::{NodeId, SlotRange};
+use server_commands::Server;
 use std::alloc::Global;
 
 /// The ranges once the two nodes have changed places.
@@ -19,6 +21,16 @@ pub(crate) fn exchanged_ranges(
         .iter()
         .map(|range| with_owner(place, node, *range))
         .collect(alloc)
+}
+
+/// Lets the two servers stand in each other's place.
+pub(crate) fn exchange_servers(servers: &mut Vec<Server>, place: NodeId, node: NodeId)
+    requires place { place < length servers.old.items }
+    requires node { node < length servers.old.items }
+    ensures value { servers.new.items ≡ swap servers.old.items place node }
+    ensures len { vec_len servers.new ≡ vec_len servers.old }
+{
+    servers.swap(usize::from(place.get()), usize::from(node.get()));
 }
 
 /// The range once the two nodes have changed places.

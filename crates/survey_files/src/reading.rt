@@ -5,7 +5,7 @@ use crate::file_fault::FileFault;
 use crate::lines::{
     MasterWords, has_id, is_open, is_passed, master_in, range_in, server_of, size_of, slots_in,
 };
-use crate::numbering::exchanged_ranges;
+use crate::numbering::{exchange_servers, exchanged_ranges};
 use byte_texts::Parts;
 use cluster_views::place_of_name;
 use key_slots::{NodeId, Slot, SlotRange};
@@ -37,17 +37,17 @@ impl Drop for Reading {
 }
 
 impl Reading {
-    ghost use Rattle.std.specs.Prelude.{◌≡◌, ◌<◌, ◌≤◌, ◌-◌, ◌==◌, IfSome, MatchResult, Ok, cond, false, length, option_map};
+    ghost use Rattle.std.specs.Prelude.{◌≡◌, ◌<◌, ◌≤◌, ◌-◌, ◌==◌, IfSome, MatchResult, Ok, Some, false, length, nat_lt};
     ghost use Rattle.std.specs.Prelude.{vec_len};
     ghost use Rattle.std.specs.List.{All};
     ghost use Rattle.byte_texts.specs.Parts.{parts};
     ghost use Rattle.survey_files.specs.Faults.{IsFaultOf};
     ghost use Rattle.survey_files.specs.Lines.{master_with};
     ghost use Rattle.cluster_views.specs.Views.{number_of};
-    ghost use Rattle.survey_files.specs.Numbering.{exchanged, put_at};
+    ghost use Rattle.survey_files.specs.Numbering.{placed, put_at};
     ghost use Rattle.survey_files.specs.Reading.{line_told, master_told, nothing_told, other_told, range_told};
     ghost use Rattle.survey_files.specs.Reading.{ranges_told, told_by};
-    ghost use Rattle.survey_files.specs.declared.file_fault.FileFault.TheVariants.{Memory, Unlisted};
+    ghost use Rattle.survey_files.specs.declared.file_fault.FileFault.TheVariants.{Unlisted};
 
     /// Before the first line.
     pub(crate) fn new(alloc: Global) -> Self
@@ -134,21 +134,17 @@ impl Reading {
     fn put_master(
         &mut self,
         alloc: Global,
-        master: Option<MasterWords<'_>>,
+        master: &MasterWords<'_>,
         line: usize,
     ) -> Result<(), FileFault>
-        requires name { IfSome master.entry (λ m. length m.name.now ≡ 40) }
-        requires host { IfSome master.entry (λ m. length m.host.now ≤ 64) }
+        requires name { length master.now.name.now ≡ 40 }
+        requires host { length master.now.host.now ≤ 64 }
         ensures { MatchResult result
-            (λ _. master_told line (told_by self.old)
-            (option_map (λ m. master_with m.node m.name.now m.host.now m.port m.slots) master.entry)
-            ≡ Ok (told_by self.new))
-            (IsFaultOf (master_told line (told_by self.old)
-            (option_map (λ m. master_with m.node m.name.now m.host.now m.port m.slots) master.entry))) }
+            (λ _. master_told line (told_by self.old) (Some (master_with master.now.node master.now.name.now
+            master.now.host.now master.now.port master.now.slots)) ≡ Ok (told_by self.new))
+            (IsFaultOf (master_told line (told_by self.old) (Some (master_with master.now.node master.now.name.now
+            master.now.host.now master.now.port master.now.slots)))) }
     {
-        let Some(master) = master else {
-            return Err(FileFault::Line(line));
-        };
         if usize::from(master.node.get()) != self.servers.as_slice().len() {
             return Err(FileFault::Line(line));
         }
@@ -156,7 +152,7 @@ impl Reading {
         if has_id(self.servers.as_slice(), master.name) {
             return Err(FileFault::SameId(line));
         }
-        let server = server_of(alloc, &master)?;
+        let server = server_of(alloc, master)?;
         let pushed = self.servers.push(server);
         if pushed.is_err() {
             return Err(FileFault::Memory);
@@ -173,7 +169,10 @@ impl Reading {
         if is_passed(text) {
             return Ok(());
         }
-        self.put_master(alloc, master_in(text), line)
+        match master_in(text) {
+            Some(master) => self.put_master(alloc, &master, line),
+            None => Err(FileFault::Line(line)),
+        }
     }
 
     /// Takes a line that is not the last one.
@@ -196,43 +195,59 @@ impl Reading {
     }
 
     /// Lets the server of this name be the node.
-    pub(crate) fn put_at(
+    pub(crate) fn put_named(
         &mut self,
         alloc: Global,
-        node: NodeId,
-        name: &NodeName,
+        named: &(NodeId, NodeName),
     ) -> Result<(), FileFault>
         ensures { MatchResult result
-            (λ _. put_at (node, name.now) (told_by self.old) (number_of (told_by self.old).servers name.now)
+            (λ _. put_at named.now (told_by self.old) (number_of self.old.servers.items named.now.1)
             ≡ Ok (told_by self.new))
-            (IsFaultOf (put_at (node, name.now) (told_by self.old) (number_of (told_by self.old).servers name.now))) }
+            (IsFaultOf (put_at named.now (told_by self.old) (number_of self.old.servers.items named.now.1))) }
     {
-        let Some(place) = place_of_name(self.servers.as_slice(), name.get()) else {
+        let node = named.0;
+        let name = &named.1;
+        let Some(place) = self.place_of(name) else {
             let name = *name;
             return Err(FileFault::MissingNode { node, name });
         };
-        let masters = self.servers.as_slice().len();
-        if masters <= usize::from(node.get()) {
-            let masters = masters as u8;
-            return Err(FileFault::BeyondMasters { node, masters });
+        if self.has_node(node) {
+            return self.place_at(alloc, place, node);
         }
-        self.exchange(alloc, NodeId::of(place as u8), node)
+        let masters = self.servers.as_slice().len() as u8;
+        Err(FileFault::BeyondMasters { node, masters })
     }
 
-    /// Lets the two servers stand in each other's place.
-    fn exchange(&mut self, alloc: Global, place: NodeId, node: NodeId) -> Result<(), FileFault>
+    /// The number of the server with this name.
+    fn place_of(&self, name: &NodeName) -> Option<NodeId>
+        ensures value { result ≡ number_of self.now.servers.items name.now }
+        ensures within { IfSome result (λ k. k < length self.now.servers.items) }
+    {
+        let place = place_of_name(self.servers.as_slice(), name.get())?;
+        Some(NodeId::of(place as u8))
+    }
+
+    /// Whether there is a server with this number.
+    fn has_node(&self, node: NodeId) -> bool
+        ensures { result ≡ nat_lt node (length self.now.servers.items) }
+    {
+        usize::from(node.get()) < self.servers.as_slice().len()
+    }
+
+    /// Lets the server at the place be the node, and the node's server stand in its place.
+    #[tactic(auto, using(crate::proofs::Numbered::exchanged_named))]
+    fn place_at(&mut self, alloc: Global, place: NodeId, node: NodeId) -> Result<(), FileFault>
         requires place { place < length self.old.servers.items }
         requires node { node < length self.old.servers.items }
-        ensures { MatchResult result
-            (λ _. told_by self.new ≡ cond (place == node) (told_by self.old) (exchanged place node (told_by self.old)))
-            (λ e. e ≡ Memory) }
+        ensures { MatchResult result (λ _. placed place node (told_by self.old) ≡ Ok (told_by self.new))
+            (IsFaultOf (placed place node (told_by self.old))) }
     {
         if place == node {
             return Ok(());
         }
-        self.ranges = exchanged_ranges(alloc, self.ranges.as_slice(), place, node)?;
-        self.servers
-            .swap(usize::from(place.get()), usize::from(node.get()));
+        let ranges = exchanged_ranges(alloc, self.ranges.as_slice(), place, node)?;
+        exchange_servers(&mut self.servers, place, node);
+        self.ranges = ranges;
         Ok(())
     }
 }

@@ -51,6 +51,7 @@ fn survey_of(alloc: Global, reading: Reading) -> Result<FileSurvey, FileFault>
 }
 
 /// What was read, with the servers in the order of the names.
+#[tactic(auto, using(crate::proofs::Numbered::names_put))]
 fn numbered(
     alloc: Global,
     mut reading: Reading,
@@ -59,13 +60,14 @@ fn numbered(
     ensures { MatchResult result (λ r. numbered names.now (told_by reading) ≡ Ok (told_by r))
         (IsFaultOf (numbered names.now (told_by reading))) }
 {
-    for (node, name) in names {
-        reading.put_at(alloc, *node, name)?;
+    for named in names {
+        reading.put_named(alloc, named)?;
     }
     Ok(reading)
 }
 
 /// What the lines tell.
+#[tactic(auto, using(crate::proofs::Telling::lines_read))]
 fn reading_of(alloc: Global, text: &[u8]) -> Result<Reading, FileFault>
     ensures { MatchResult result (λ r. told_in text.now ≡ Ok (told_by r)) (IsFaultOf (told_in text.now)) }
 {
