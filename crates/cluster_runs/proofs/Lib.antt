@@ -5,4 +5,3 @@ pub mod Ended
 pub mod Looked
 pub mod RestPlans
 pub mod Settled
-pub mod Unfound
