@@ -2,6 +2,7 @@
 use Rattle.std.specs.Prelude.{◌≡◌, ◌≢◌, ◌⊎◌, ℕ, List, ◌++◌, take, Option, None, Some, Ok, codes}
 use Rattle.byte_streams.specs.Inputs.{IsWholeInput}
 use Rattle.byte_streams.specs.Streams.{Input, Output}
+use Rattle.command_words.specs.declared.usage.ApplyWords.{ApplyWords}
 use Rattle.key_slots.specs.Owners.{Owners}
 use Rattle.transcripts.specs.PlanVerdicts.{SaysCount}
 use Rattle.plan_language.specs.PlanView.{PlanView}
@@ -54,24 +55,24 @@ Applies file i o status = RunsPlan file i o status ⊎ TellsRefusalOf i o status
 
 -- ---- at servers that were asked
 
-module _ {I O E : Type 0} (P H : Type 0) (x : Setting I O E) where
+module _ {I O E : Type 0} (P H : Type 0) (x : Setting I O E) (g : ApplyWords) where
   -- so ended what was made ready, and what followed of these lines
   abbrev pub EndsRun : Attempt → prepared.Prepared I O → (lines : PlanView) → Answers
-  EndsRun a ready lines status text = (t : Transcript) × IsLastEnd P H x a ready lines t × (t.status ≡ status)
+  EndsRun a ready lines status text = (t : Transcript) × IsLastEnd P H x g a ready lines t × (t.status ≡ status)
       × (t.printed.items ≡ text)
 
   -- the plan that was read was made ready at a clean cluster, and so it ran to its end
   pub record RunsRead {R W : Type 0} (i : Input R) (o : Output W) (status : ℕ) : Type 0 where
     pub input : List ℕ
-    pub read : IsPlanInput x.words.plan i input
+    pub read : IsPlanInput g.plan i input
     pub plan : PlanView
     pub is : any_plan_of_text input ≡ Ok plan
     pub attempt : Attempt
-    pub first : IsFirst x.words.timeout (most_keys 1 plan.lines) attempt
+    pub first : IsFirst g.timeout (most_keys 1 plan.lines) attempt
     pub ready : prepared.Prepared I O
     pub prepared : IsPreparedAtClean plan ready
-    pub expected : IsExpectedBy x.words.cluster.expect ready.servers.book
-    pub away : AreAway (asks_of (streams_in x)) (dead_ids x.words.dead_for_good) (names_listed plan)
+    pub expected : IsExpectedBy g.cluster.expect ready.servers.book
+    pub away : AreAway (asks_of (streams_in x)) (dead_ids g.dead_for_good) (names_listed plan)
         ready.servers.left_out.items plan.lines
     pub count : List ℕ
     pub says : SaysCommands plan ready.servers.surveyed.survey count

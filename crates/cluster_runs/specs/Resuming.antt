@@ -50,10 +50,10 @@ module _ {I O E : Type 0} (P H : Type 0) (x : Setting I O E) where
     pub first : IsFirst g.run.timeout g.batch attempt
     pub log : Option Log
     pub rest : prepared.Prepared I O
-    pub ready : IsReadyAgain x lines attempt log rest
+    pub ready : IsReadyAgain x g.run lines attempt log rest
     pub count : List ℕ
     pub says : TellsCommands rest count
-    pub runs : Runs (EndsRun P H x attempt rest lines) count o status
+    pub runs : Runs (EndsRun P H x g.run attempt rest lines) count o status
 
   -- or there was nothing to do, or why none ran is told
   abbrev pub GoesOnAt : {W : Type 0} → ResumeWords → Output W → (status : ℕ) → Type 0

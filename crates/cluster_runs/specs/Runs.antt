@@ -2,6 +2,7 @@
 use Rattle.std.specs.Prelude.{◌≡◌, ◌⊎◌, ◌↔◌, ℕ, ◌+◌, zero, suc, Bool, false, true, List, [], length, Option, None, Some}
 use Rattle.std.specs.Prelude.{IsTrue, is_some}
 use Rattle.cluster_admin.specs.declared.call.AdminCall.{AdminCall}
+use Rattle.command_words.specs.declared.usage.ApplyWords.{ApplyWords}
 use Rattle.plan_language.specs.PlanView.{PlanView}
 use Rattle.plan_changes.specs.Loads.{most}
 use Rattle.plan_runner.specs.declared.verifier.VerifiedPlan.{VerifiedPlan}
@@ -135,8 +136,13 @@ ways_of x = record {
   log_took = x.log_took;
 }
 
--- at ports whose clock is of the type P, on a system of the type H
-module _ {I O E : Type 0} (P H : Type 0) (x : Setting I O E) where
+-- what is left could not be made ready, and why stands on standard error
+abbrev pub TellsUnready : {I O E : Type 0} → Setting I O E → (screen' : E) → Type 0
+TellsUnready {I} {O} {E} x screen' = (why : Transcript) × SaysRefusal why.status why.printed.items
+    × (screen : E) × Writes x.shows x.failures why.printed.items screen screen'
+
+-- by these words, at ports whose clock is of the type P, on a system of the type H
+module _ {I O E : Type 0} (P H : Type 0) (x : Setting I O E) (g : ApplyWords) where
   -- The port is to these servers as they were found, and the watch is of this run. What is to be shown before stands on
   -- standard error.
   pub record StartsRun (a : Attempt) (ready : prepared.Prepared I O) (p : port.ServersPort I O P) (w : FileWatch H E)
@@ -146,7 +152,7 @@ module _ {I O E : Type 0} (P H : Type 0) (x : Setting I O E) where
     pub survey : p.setup.survey ≡ ready.survey
     pub timeout : p.setup.timeout ≡ a.timeout
     pub credentials : p.setup.credentials ≡ x.login
-    pub waits_for_news : p.setup.waits_for_news ≡ x.words.wait_for_news
+    pub waits_for_news : p.setup.waits_for_news ≡ g.wait_for_news
     pub course : IsNewCourse ready.survey p.history
     pub unsaid : p.said ≡ None
     pub open_before : p.has_stopped ≡ false
@@ -156,8 +162,8 @@ module _ {I O E : Type 0} (P H : Type 0) (x : Setting I O E) where
     pub counts : w.run.counts ≡ ready.counts
     pub kind : w.run.kind ≡ Other
     pub moves : w.moves ≡ ready.moves
-    pub pace : IsPaceOf x.words.keys_per_second w.pace
-    pub stop_file : w.run_context.stop_file.now ≡ x.words.stop_file
+    pub pace : IsPaceOf g.keys_per_second w.pace
+    pub stop_file : w.run_context.stop_file.now ≡ g.stop_file
     pub sees : w.run_context.is_blind ≡ false
     pub screen : E
     pub shown : Writes x.shows x.failures ready.notes.items screen w.run_context.errors.now
@@ -169,21 +175,16 @@ module _ {I O E : Type 0} (P H : Type 0) (x : Setting I O E) where
 
   -- what is left of these lines was made ready, with a log that continues this one, and ran so
   abbrev pub IsRunOfRest : (lines : PlanView) → Attempt → Option Log → ran.Ran FileOut → Type 0
-  IsRunOfRest lines a log r = (rest : prepared.Prepared I O) × IsReadyAgain x lines a log rest × IsRunOf a rest r
+  IsRunOfRest lines a log r = (rest : prepared.Prepared I O) × IsReadyAgain x g lines a log rest × IsRunOf a rest r
 
   -- ---- what follows a run
-
-  -- what is left could not be made ready, and why stands on standard error
-  abbrev pub TellsUnready : E → Type 0
-  TellsUnready screen' = (why : Transcript) × SaysRefusal why.status why.printed.items
-      × (screen : E) × Writes x.shows x.failures why.printed.items screen screen'
 
   -- A run is over, and that is its end: the plan does not continue after it, or what is left could not be made ready.
   -- Or it took too long, and what is left ran once more, with less to do at a time where a MIGRATE did.
   abbrev pub IsNext : (lines : PlanView) → ran.Ran FileOut → (attempt : Attempt) → Next → (attempt' : Attempt)
       → (screen' : E) → Type 0
   IsNext lines r a (Over t) a' screen' = (t ≡ r.end) × (Continues r.trouble r.commands r.handed_over a false a'
-      ⊎ (Continues r.trouble r.commands r.handed_over a true a' × TellsUnready screen'))
+      ⊎ (Continues r.trouble r.commands r.handed_over a true a' × TellsUnready x screen'))
   IsNext lines r a (Again r') a' screen' =
       Continues r.trouble r.commands r.handed_over a true a' × IsRunOfRest lines a' r.log r'
 
@@ -193,16 +194,16 @@ most_attempts = 400
 
 -- So the last of the runs after this one ended, where the plan may continue so often: it was the last, or it is the last
 -- after the one that follows it.
-unfoldable pub IsEndBehind : {I O E : Type 0} → (P H : Type 0) → Setting I O E → (left : ℕ) → (lines : PlanView)
-    → Attempt → ran.Ran FileOut → Transcript → Type 0
-IsEndBehind P H x zero lines a r t = t ≡ r.end
-IsEndBehind {I} {O} {E} P H x (suc left) lines a r t =
-    ((a' : Attempt) × (screen' : E) × IsNext P H x lines r a (Over t) a' screen')
-    ⊎ ((r' : ran.Ran FileOut) × (a' : Attempt) × (screen' : E) × IsNext P H x lines r a (Again r') a' screen'
-    × IsEndBehind P H x left lines a' r' t)
+unfoldable pub IsEndBehind : {I O E : Type 0} → (P H : Type 0) → Setting I O E → ApplyWords → (left : ℕ)
+    → (lines : PlanView) → Attempt → ran.Ran FileOut → Transcript → Type 0
+IsEndBehind P H x g zero lines a r t = t ≡ r.end
+IsEndBehind {I} {O} {E} P H x g (suc left) lines a r t =
+    ((a' : Attempt) × (screen' : E) × IsNext P H x g lines r a (Over t) a' screen')
+    ⊎ ((r' : ran.Ran FileOut) × (a' : Attempt) × (screen' : E) × IsNext P H x g lines r a (Again r') a' screen'
+    × IsEndBehind P H x g left lines a' r' t)
 
 -- so the last of the runs ended: the first one, or one of what it left
-abbrev pub IsLastEnd : {I O E : Type 0} → (P H : Type 0) → Setting I O E → Attempt → prepared.Prepared I O
-    → (lines : PlanView) → Transcript → Type 0
-IsLastEnd P H x a ready lines t = (r : ran.Ran FileOut) × IsRunOf P H x a ready r
-    × IsEndBehind P H x most_attempts lines a r t
+abbrev pub IsLastEnd : {I O E : Type 0} → (P H : Type 0) → Setting I O E → ApplyWords → Attempt
+    → prepared.Prepared I O → (lines : PlanView) → Transcript → Type 0
+IsLastEnd P H x g a ready lines t = (r : ran.Ran FileOut) × IsRunOf P H x g a ready r
+    × IsEndBehind P H x g most_attempts lines a r t

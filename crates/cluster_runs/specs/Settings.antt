@@ -1,9 +1,8 @@
--- By what a plan runs at a cluster of servers.
+-- What is around a plan that runs at a cluster of servers.
 use Rattle.std.specs.Prelude.{ℕ, List, Option}
 use Rattle.std.specs.declared.fs.File.{File}
 use Rattle.byte_streams.specs.declared.memory.MemoryOut.{MemoryOut}
 use Rattle.byte_streams.specs.declared.standard.StandardOut as standard
-use Rattle.command_words.specs.declared.usage.ApplyWords.{ApplyWords}
 use Rattle.server_commands.specs.declared.credentials.Credentials.{Credentials}
 use Rattle.server_links.specs.Streams.{Streams}
 
@@ -11,9 +10,8 @@ use Rattle.server_links.specs.Streams.{Streams}
 abbrev pub FileOut : Type 0
 FileOut = standard.StandardOut File
 
--- the words, what connections show, and what these, the log, standard error and a writer in memory take
+-- what connections show, and what these, the log, standard error and a writer in memory take
 pub record Setting (I O E : Type 0) : Type 1 where
-  pub words : ApplyWords
   pub login : Option Credentials
   pub gave : I → ℕ → List ℕ → I → Type 0
   pub took : O → List ℕ → O → Type 0
