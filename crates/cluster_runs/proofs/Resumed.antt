@@ -1,5 +1,6 @@
 -- What closes open slots, told by what was asked.
-use Rattle.std.proofs.Common.{ℕ, inl, inr, subst}
+use Rattle.std.proofs.Common.{◌≡◌, ℕ, Option, None, Some, inl, inr, subst}
+use Rattle.std.specs.Prelude.{MatchOption}
 use Rattle.byte_streams.specs.Streams.{Output}
 use Rattle.command_words.specs.declared.usage.ResumeWords.{ResumeWords}
 use Rattle.cluster_runs.proofs.Applied.{runs_as}
@@ -20,3 +21,10 @@ goes_as P H x g o status (inl ran) = inl (
   runs_as _ _ ran.count o status (ends_run P H x g.run ran.attempt ran.rest ran.lines) ran.runs,
 )
 goes_as P H x g o status (inr other) = inr other
+
+-- what is said of an option, by what it is
+pub some_is : {A : Type 0} (o : Option A) (a : A) (P : Type 0) (Q : A → Type 0) → o ≡ Some a → MatchOption o P Q → Q a
+some_is o a P Q is holds = subst (λ o. MatchOption o P Q) is holds
+
+pub none_is : {A : Type 0} (o : Option A) (P : Type 0) (Q : A → Type 0) → o ≡ None → MatchOption o P Q → P
+none_is o P Q is holds = subst (λ o. MatchOption o P Q) is holds
