@@ -346,7 +346,7 @@ class Telling:
         self.values |= values
 
     def words(self, *more):
-        return ["apply", "--cluster", self.servers.address(0), "--log", self.log, *more]
+        return ["apply", "--cluster", self.servers.address(0), "--log", self.log, "--overwrite", *more]
 
     def resume(self, *words):
         return self.it.run("resume", "--cluster", self.servers.address(0), *words)
@@ -407,7 +407,7 @@ def all_at_once(telling):
     plan, slots = telling.plan()
     telling.put(slots)
     telling.fronts.begin(held=others)
-    it.applied(telling.servers, plan, "in one go", "--log", telling.log)
+    it.applied(telling.servers, plan, "in one go", "--log", telling.log, "--overwrite")
     for slot in slots:
         are_asked_at_once(telling, slot, f"in one go, slot {slot}")
         telling.are_told(slot, telling.nodes, f"in one go, slot {slot}")
@@ -439,7 +439,7 @@ def one_by_one(telling):
     plan, slots = telling.plan(version=1)
     telling.put(slots)
     telling.fronts.begin()
-    telling.it.applied(telling.servers, plan, "version 1", "--log", telling.log)
+    telling.it.applied(telling.servers, plan, "version 1", "--log", telling.log, "--overwrite")
     for slot in slots:
         asked = telling.fronts.of(slot)
         wanted = [telling.target, telling.source, *telling.others]

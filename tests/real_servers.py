@@ -795,7 +795,7 @@ def passwords(it):
         it.check("a survey with the password", seen[0].status == 0, seen[0])
         log = it.folder / "log"
         seen.append(it.applied(servers, plan_of("move 0-9 from n0 to n1 by 4"), "with a password", "--log", log,
-                               environment=given))
+                               "--overwrite", environment=given))
         is_logged_well(it, log, seen[-1], "with a password")
         for rights in documented_rights():
             replies = [connection.ask("ACL", "SETUSER", "mover", *rights) for connection in servers.nodes]
@@ -804,7 +804,7 @@ def passwords(it):
         plan = plan_of("move 10-19 from n0 to n2 by 4")
         seen.append(it.run("explain", "--cluster", servers.address(0), plan=plan, environment=given))
         it.check("a plan is explained as a user", seen[-1].status == 0, seen[-1])
-        seen.append(it.applied(servers, plan, "as a user", "--log", log, environment=given))
+        seen.append(it.applied(servers, plan, "as a user", "--log", log, "--overwrite", environment=given))
         is_logged_well(it, log, seen[-1], "as a user")
         seen.append(it.run("resume", "--cluster", servers.address(0), environment=given))
         it.has_printed(seen[-1], 0, "clean, nothing to resume", "as a user")
@@ -870,8 +870,8 @@ def no_command(it):
     """A node without MIGRATE shows the beginning of the command in its text, with the password in it."""
     with it.servers_with(range(3), 2, password=SECRET, more=["--rename-command", "MIGRATE", ""]) as (servers, values):
         log = it.folder / "log"
-        ran = it.run("apply", "--cluster", servers.address(0), "--log", log, environment={"RESHARD_AUTH": SECRET},
-                     plan=plan_of("move 0-2 from n0 to n1 by 10"))
+        ran = it.run("apply", "--cluster", servers.address(0), "--log", log, "--overwrite",
+                     environment={"RESHARD_AUTH": SECRET}, plan=plan_of("move 0-2 from n0 to n1 by 10"))
         it.has_printed(ran, 1, r"stopped at command \d+: ERR unknown command 'MIGRATE'.*", "no MIGRATE")
         it.check("no MIGRATE: no output shows the password", not holds_secrets(ran.out + ran.err), ran)
         it.check("no MIGRATE: the log does not show it", log.exists() and not holds_secrets(log.read_text()))
@@ -1292,10 +1292,18 @@ def reader_goes_away(it, servers, words, plan):
 
 def rights(it, servers, plan):
     log = it.folder / "log"
+    log.unlink(missing_ok=True)
     it.applied(servers, plan(), "a new log", "--log", log)
     it.check("a new log is for its owner alone", log.stat().st_mode & 0o777 == OWNER_ALONE, oct(log.stat().st_mode))
     log.chmod(OPEN_TO_OTHERS)
-    it.applied(servers, plan(), "a log that was there", "--log", log)
+    before = log.read_bytes()
+    ran = it.run("apply", "--cluster", servers.address(0), "--log", log, plan=plan())
+    it.has_printed(ran, 1, re.escape(f"refused: --log {log} is not empty: give --append or --overwrite"), "a log in use")
+    it.check("a log that is refused stays", log.read_bytes() == before and not marked(servers))
+    it.applied(servers, plan(), "a log that was there", "--log", log, "--append")
+    it.check("a log that is appended to keeps its lines", log.read_bytes().startswith(before) and len(before) > 0)
+    it.applied(servers, plan(), "a log that is overwritten", "--log", log, "--overwrite")
+    it.check("a log that is overwritten has new lines alone", before not in log.read_bytes())
     it.check("a log that was there keeps its rights", log.stat().st_mode & 0o777 == OPEN_TO_OTHERS)
 
 

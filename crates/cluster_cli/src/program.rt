@@ -161,7 +161,7 @@ fn run_at<
 }
 
 /// What the connections of this command show, if it makes any.
-fn credentials_for<H: Env + AllocGlobal>(
+fn credentials_for<H: Env + Files<File = File> + AllocGlobal>(
     rt: &H,
     alloc: Global,
     usage: &Usage,

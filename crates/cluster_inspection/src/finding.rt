@@ -114,7 +114,13 @@ pub fn find_cluster<
 {
     let mut sockets = Sockets::new(system, waiting);
     let addresses = words.addresses.as_slice();
-    match find(system.alloc, &mut sockets, addresses, names, system.credentials) {
+    match find(
+        system.alloc,
+        &mut sockets,
+        addresses,
+        names,
+        system.credentials,
+    ) {
         Ok(servers) => as_expected(system, words, servers),
         Err(fault) => Err(unfound(system.alloc, fault)?),
     }

@@ -2,9 +2,9 @@
 use byte_streams::{ByteIn, ByteOut};
 use cluster_views::SurveyFault;
 use key_slots::{NodeId, Slot};
-use slot_key_counts::keys_at;
 use server_links::Link;
 use server_phases::KeyCounts;
+use slot_key_counts::keys_at;
 use std::alloc::Global;
 
 /// Counts keys over connections, n0's first.

@@ -3,8 +3,8 @@ ghost use Rattle.std.specs.Prelude.{◌≡◌};
 
 use cluster_views::SurveyFault;
 use key_slots::{NodeId, Slot};
-use slot_key_counts::KeyTable;
 use server_phases::KeyCounts;
+use slot_key_counts::KeyTable;
 
 /// Reads keys that were told.
 #[derive(Drop)]

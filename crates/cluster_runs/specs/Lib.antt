@@ -4,6 +4,7 @@ pub mod Batches
 pub mod Continuing
 pub mod Emptied
 pub mod Ends
+pub mod LogStarts
 pub mod Looking
 pub mod Operators
 pub mod Preparing

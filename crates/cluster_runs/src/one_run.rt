@@ -20,7 +20,7 @@ use cluster_survey::FoundCluster;
 use command_words::ApplyWords;
 use plan_runner::VerifiedPlan;
 use redis_servers::{Pause, ServersPort, ServersSeat};
-use server_runs::{Pace, RunLog, RunContext, Watch, apply, apply_in_one_go};
+use server_runs::{Pace, RunContext, RunLog, Watch, apply, apply_in_one_go};
 use std::alloc::{AllocError, Global};
 use std::fs::{File, Files};
 use std::time::Clock;
@@ -81,7 +81,13 @@ pub(crate) fn run_once<
     } = prepared;
     tell(errors, notes.as_slice());
     let nodes = survey.nodes();
-    let port = port_of(system, servers, attempt.timeout, survey, words.wait_for_news)?;
+    let port = port_of(
+        system,
+        servers,
+        attempt.timeout,
+        survey,
+        words.wait_for_news,
+    )?;
     let operator = Operator::new(system.rt, &words.stop_file, errors);
     let watch = Watch::new(
         system.alloc,

@@ -12,7 +12,7 @@ ghost use Rattle.server_phases.specs.Opened.{IsOpened};
 ghost use Rattle.server_shards.specs.Returning.{asks_of};
 
 use crate::emptied::emptied_lines;
-use crate::log_files::{Before, open_log};
+use crate::log_files::{before_apply, open_log};
 use crate::prepared::Prepared;
 use crate::stop_files::check_stop_file;
 use byte_streams::{ByteIn, ByteOut};
@@ -85,7 +85,7 @@ pub(crate) fn prepare<
     let (prepared, count) = verified(system.alloc, servers, plan)?;
     check_returning(system, words, &prepared.servers, &copy, &copy)?;
     check_stop_file(system, words)?;
-    let log = open_log(system, words, Before::Cleared)?;
+    let log = open_log(system, words, before_apply(words))?;
     Ok((prepared.with_log(log), count, copy))
 }
 

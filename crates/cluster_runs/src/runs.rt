@@ -62,7 +62,15 @@ pub(crate) fn carry_out<
 {
     let ran = run_once(system, words, &attempt, prepared, errors)?;
     let mut attempt = attempt;
-    let end = carry_on(system, words, ran, lines, &mut attempt, errors, MAX_ATTEMPTS)?;
+    let end = carry_on(
+        system,
+        words,
+        ran,
+        lines,
+        &mut attempt,
+        errors,
+        MAX_ATTEMPTS,
+    )?;
     Ok(end)
 }
 

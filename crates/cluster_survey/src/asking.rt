@@ -6,9 +6,9 @@ ghost use Rattle.server_commands.specs.Spelling.{nodes_request};
 ghost use Rattle.server_links.specs.Links.{Exchanges};
 
 use byte_streams::{ByteIn, ByteOut};
-use listed_nodes::{NodeLines, nodes_in};
 use cluster_views::{SurveyFault, Surveyed, survey_of};
 use key_slots::NodeId;
+use listed_nodes::{NodeLines, nodes_in};
 use resp2_wire::Reply;
 use server_commands::{NODES_REQUEST, ServerBook};
 use server_links::{Link, ReplyLimit};

@@ -4,9 +4,9 @@ ghost use Rattle.cluster_survey.specs.Masters.{IsNotAdded, left_out, place, serv
 
 use crate::ipv4::place_of;
 use byte_texts::Memory;
-use listed_nodes::NodeLine;
 use cluster_views::{SurveyFault, is_gone, is_present};
 use key_slots::MAX_NODES;
+use listed_nodes::NodeLine;
 use server_commands::{Server, ServerBook};
 use std::alloc::Global;
 

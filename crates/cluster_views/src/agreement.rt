@@ -12,8 +12,8 @@ use crate::named_book::NamedBook;
 use crate::server_survey::ServerSurvey;
 use crate::told_epochs::{epoch_told, epochs_in};
 use byte_texts::Memory;
-use listed_nodes::{NodeLine, NodeLines};
 use key_slots::{NodeId, SLOTS, Slot};
+use listed_nodes::{NodeLine, NodeLines};
 use std::alloc::Global;
 
 /// Whether a node has a mark of the slot.

@@ -14,8 +14,8 @@ use crate::gone::is_gone;
 use crate::named_book::NamedBook;
 use crate::told_epochs::{epoch_told, epochs_in};
 use byte_texts::{Memory, is};
-use listed_nodes::NodeLine;
 use key_slots::NodeId;
+use listed_nodes::NodeLine;
 use server_commands::Server;
 use std::alloc::Global;
 

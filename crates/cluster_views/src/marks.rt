@@ -11,8 +11,8 @@ use crate::knowing::own_line;
 use crate::named_book::NamedBook;
 use crate::server_row::ServerRow;
 use byte_texts::Memory;
-use listed_nodes::{NodeLine, SlotWord};
 use key_slots::{NodeId, OwnerTable, Slot};
+use listed_nodes::{NodeLine, SlotWord};
 use slot_marks::MarkRow;
 use std::alloc::Global;
 

@@ -10,8 +10,8 @@ ghost use Rattle.cluster_views.specs.Views.{size_of};
 use crate::fault::SurveyFault;
 use crate::named_book::NamedBook;
 use byte_texts::Memory;
-use listed_nodes::{NodeLine, SlotWord};
 use key_slots::{NodeId, OwnerTable, SLOTS, Slot};
+use listed_nodes::{NodeLine, SlotWord};
 use std::alloc::Global;
 
 /// Whether the masters' lines list more slots than there are.

@@ -8,8 +8,8 @@ use crate::named_book::NamedBook;
 use crate::server_survey::ServerSurvey;
 use crate::view::row_of_view;
 use byte_texts::Memory;
-use listed_nodes::NodeLines;
 use key_slots::NodeId;
+use listed_nodes::NodeLines;
 use server_commands::ServerBook;
 use std::alloc::Global;
 

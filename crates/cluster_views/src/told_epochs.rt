@@ -8,8 +8,8 @@ ghost use Rattle.server_commands.specs.Servers.{server_at};
 
 use crate::named_book::NamedBook;
 use byte_texts::Memory;
-use listed_nodes::NodeLine;
 use key_slots::NodeId;
+use listed_nodes::NodeLine;
 use std::alloc::Global;
 
 /// What the lines tell of each server, by its number: the first line about it as a master counts. Of several servers

@@ -12,8 +12,8 @@ use crate::named_book::NamedBook;
 use crate::owners::{first_without, overlap_fault, owners_said, table_of};
 use crate::server_row::ServerRow;
 use byte_texts::Memory;
-use listed_nodes::NodeLine;
 use key_slots::NodeId;
+use listed_nodes::NodeLine;
 use std::alloc::Global;
 
 /// What is wrong with the view, but for slots without an owner.

@@ -25,6 +25,8 @@ use Rattle.clap.proofs.WalkLemmas.{walk_stopped}
 use Rattle.command_words.proofs.Options.{apply_found, drain_found, draw_found, explain_found}
 use Rattle.command_words.proofs.Options.{forget_found, rebalance_found, reshard_found, resume_found, serve_found}
 use Rattle.command_words.proofs.Options.{starts_found, survey_found}
+use Rattle.command_words.specs.declared.start_kind.StartKind.{StartKind}
+use Rattle.command_words.specs.declared.start_kind.StartKind.TheVariants.{Even}
 use Rattle.command_words.proofs.Options.{leaf as options}
 use Rattle.command_words.proofs.Walks.{neither}
 use Rattle.command_words.specs.Clusters.{AreApplyRows, HasApply}
@@ -39,10 +41,10 @@ use Rattle.command_words.specs.Showing.{AreDrawRows, AreExplainRows, HasDraw, Ha
 use Rattle.command_words.specs.Starts.{AreStartRows, HasStart}
 use Rattle.command_words.specs.declared.sizes.Sizes.{Sizes}
 use Rattle.command_words.specs.declared.faults.OptionFault.{OptionFault}
-use Rattle.command_words.specs.declared.faults.OptionFault.TheVariants.{NoAddress, NoCluster, NoCount, NoId, NowAlone}
+use Rattle.command_words.specs.declared.faults.OptionFault.TheVariants.{NoAddress, NoCluster, NoCount, NoId, NowAlone, NoLog, SurveyBeside, TwoLogStarts}
 use Rattle.command_words.specs.declared.faults.OptionFault.TheVariants.{TwoStarts, Uneven}
 use Rattle.command_words.specs.CommandLine.{EndsLine, IsCommand, IsFaultLine, IsMet, IsMetAtFault, IsNoOther}
-use Rattle.command_words.specs.CommandLine.{HasWholeLines, command_in, names_cluster, AsksFor, IsCallForHelp}
+use Rattle.command_words.specs.CommandLine.{HasWholeLines, command_in, start_kind, AsksFor, IsCallForHelp}
 use Rattle.command_words.specs.CommandLine.{IsCallForVersion, IsRehearsal, MayBeMistaken, ReportsOf, Words, faults}
 use Rattle.command_words.specs.CommandLine.{reshard}
 use Rattle.command_words.specs.declared.usage.Usage.{Usage}
@@ -68,22 +70,22 @@ or_false : (b : Bool) → b || false ≡ true → b ≡ true
 or_false true e = refl
 or_false false e = e
 
--- in the one form of the command line or the other
-abbrev app : (servers : Bool) → App
-app servers = built (reshard servers)
+-- in one of the forms of the command line
+abbrev app : (kind : StartKind) → App
+app kind = built (reshard kind)
 
-abbrev faults_by : (servers : Bool) → Words → Kinds
-faults_by servers words = fault_of (reshard servers) (codes "reshard" ∷ words)
+abbrev faults_by : (kind : StartKind) → Words → Kinds
+faults_by kind words = fault_of (reshard kind) (codes "reshard" ∷ words)
 
 abbrev Met : Type 0
 Met = Option (Text × List Row)
 
-abbrev command_by : (servers : Bool) → Words → Met
-command_by servers words = subcommand_of (reshard servers) (codes "reshard" ∷ words)
+abbrev command_by : (kind : StartKind) → Words → Met
+command_by kind words = subcommand_of (reshard kind) (codes "reshard" ∷ words)
 
--- what is above the subcommands is the same in both
+-- what is above the subcommands is the same in each
 abbrev above : App
-above = app false
+above = app Even
 
 abbrev names : Names
 names = names_of above
@@ -323,262 +325,262 @@ unfolding clap_on_literals
 forget_stops rest = sym (ap (λ (w : Walk). w.stopped)
     (walk_stopped rules names (walk_from nothing_held) (codes "forget") [] rest))
 
-module _ (servers : Bool) where
-  after_rehearse : (rest : Words) → faults_by servers (codes "rehearse" ∷ rest) ≡ [] → (rest ≡ [])
+module _ (kind : StartKind) where
+  after_rehearse : (rest : Words) → faults_by kind (codes "rehearse" ∷ rest) ≡ [] → (rest ≡ [])
       ⊎ (rest ≡ codes "--" ∷ [])
   after_rehearse rest e =
-      let below : entered_fault (app servers) (walk rules names nothing_held (codes "rehearse" ∷ rest)).stopped ≡ [] =
+      let below : entered_fault (app kind) (walk rules names nothing_held (codes "rehearse" ∷ rest)).stopped ≡ [] =
       (neither _ _ (neither _ _ e).1).0 in
       leaf_words rest (neither _ _ (rw (rehearse_stops rest) at below)).0
 
-  after_verify : (rest : Words) → faults_by servers (codes "verify" ∷ rest) ≡ []
-      → AreStartRows (rows_after (options servers 1).rules [] rest)
+  after_verify : (rest : Words) → faults_by kind (codes "verify" ∷ rest) ≡ []
+      → AreStartRows (rows_after (options kind 1).rules [] rest)
   after_verify rest e =
-      let below : entered_fault (app servers) (walk rules names nothing_held (codes "verify" ∷ rest)).stopped ≡ [] =
+      let below : entered_fault (app kind) (walk rules names nothing_held (codes "verify" ∷ rest)).stopped ≡ [] =
       (neither _ _ (neither _ _ e).1).0 in
-      starts_found servers rest (subst (λ o. entered_fault (app servers) o ≡ []) (verify_stops rest) below)
+      starts_found kind rest (subst (λ o. entered_fault (app kind) o ≡ []) (verify_stops rest) below)
 
-  after_plan_reshard : (rest : Words) → faults_by servers (codes "plan-reshard" ∷ rest) ≡ []
-      → AreReshardRows (rows_after (options servers 2).rules [] rest)
+  after_plan_reshard : (rest : Words) → faults_by kind (codes "plan-reshard" ∷ rest) ≡ []
+      → AreReshardRows (rows_after (options kind 2).rules [] rest)
   after_plan_reshard rest e =
-      let below : entered_fault (app servers) (walk rules names nothing_held (codes "plan-reshard" ∷ rest)).stopped ≡ [] = (neither _ _ (neither _ _ e).1).0 in
-      reshard_found servers rest (subst (λ o. entered_fault (app servers) o ≡ []) (plan_reshard_stops rest) below)
+      let below : entered_fault (app kind) (walk rules names nothing_held (codes "plan-reshard" ∷ rest)).stopped ≡ [] = (neither _ _ (neither _ _ e).1).0 in
+      reshard_found kind rest (subst (λ o. entered_fault (app kind) o ≡ []) (plan_reshard_stops rest) below)
 
-  after_plan_rebalance : (rest : Words) → faults_by servers (codes "plan-rebalance" ∷ rest) ≡ []
-      → AreRebalanceRows (rows_after (options servers 3).rules [] rest)
+  after_plan_rebalance : (rest : Words) → faults_by kind (codes "plan-rebalance" ∷ rest) ≡ []
+      → AreRebalanceRows (rows_after (options kind 3).rules [] rest)
   after_plan_rebalance rest e =
-      let below : entered_fault (app servers) (walk rules names nothing_held (codes "plan-rebalance" ∷ rest)).stopped ≡ [] = (neither _ _ (neither _ _ e).1).0 in
-      rebalance_found servers rest (subst (λ o. entered_fault (app servers) o ≡ []) (plan_rebalance_stops rest) below)
+      let below : entered_fault (app kind) (walk rules names nothing_held (codes "plan-rebalance" ∷ rest)).stopped ≡ [] = (neither _ _ (neither _ _ e).1).0 in
+      rebalance_found kind rest (subst (λ o. entered_fault (app kind) o ≡ []) (plan_rebalance_stops rest) below)
 
-  after_serve : (rest : Words) → faults_by servers (codes "serve" ∷ rest) ≡ []
-      → AreServeRows (rows_after (options servers 4).rules [] rest)
+  after_serve : (rest : Words) → faults_by kind (codes "serve" ∷ rest) ≡ []
+      → AreServeRows (rows_after (options kind 4).rules [] rest)
   after_serve rest e =
-      let below : entered_fault (app servers) (walk rules names nothing_held (codes "serve" ∷ rest)).stopped ≡ [] =
+      let below : entered_fault (app kind) (walk rules names nothing_held (codes "serve" ∷ rest)).stopped ≡ [] =
       (neither _ _ (neither _ _ e).1).0 in
-      serve_found servers rest (subst (λ o. entered_fault (app servers) o ≡ []) (serve_stops rest) below)
+      serve_found kind rest (subst (λ o. entered_fault (app kind) o ≡ []) (serve_stops rest) below)
 
-  after_survey : (rest : Words) → faults_by servers (codes "survey" ∷ rest) ≡ []
-      → AreSurveyRows (rows_after (options servers 5).rules [] rest)
+  after_survey : (rest : Words) → faults_by kind (codes "survey" ∷ rest) ≡ []
+      → AreSurveyRows (rows_after (options kind 5).rules [] rest)
   after_survey rest e =
-      let below : entered_fault (app servers) (walk rules names nothing_held (codes "survey" ∷ rest)).stopped ≡ [] =
+      let below : entered_fault (app kind) (walk rules names nothing_held (codes "survey" ∷ rest)).stopped ≡ [] =
       (neither _ _ (neither _ _ e).1).0 in
-      survey_found servers rest (subst (λ o. entered_fault (app servers) o ≡ []) (survey_stops rest) below)
+      survey_found kind rest (subst (λ o. entered_fault (app kind) o ≡ []) (survey_stops rest) below)
 
-  after_apply : (rest : Words) → faults_by servers (codes "apply" ∷ rest) ≡ []
-      → AreApplyRows (rows_after (options servers 6).rules [] rest)
+  after_apply : (rest : Words) → faults_by kind (codes "apply" ∷ rest) ≡ []
+      → AreApplyRows (rows_after (options kind 6).rules [] rest)
   after_apply rest e =
-      let below : entered_fault (app servers) (walk rules names nothing_held (codes "apply" ∷ rest)).stopped ≡ [] =
+      let below : entered_fault (app kind) (walk rules names nothing_held (codes "apply" ∷ rest)).stopped ≡ [] =
       (neither _ _ (neither _ _ e).1).0 in
-      apply_found servers rest (subst (λ o. entered_fault (app servers) o ≡ []) (apply_stops rest) below)
+      apply_found kind rest (subst (λ o. entered_fault (app kind) o ≡ []) (apply_stops rest) below)
 
-  after_resume : (rest : Words) → faults_by servers (codes "resume" ∷ rest) ≡ []
-      → AreResumeRows (rows_after (options servers 7).rules [] rest)
+  after_resume : (rest : Words) → faults_by kind (codes "resume" ∷ rest) ≡ []
+      → AreResumeRows (rows_after (options kind 7).rules [] rest)
   after_resume rest e =
-      let below : entered_fault (app servers) (walk rules names nothing_held (codes "resume" ∷ rest)).stopped ≡ [] =
+      let below : entered_fault (app kind) (walk rules names nothing_held (codes "resume" ∷ rest)).stopped ≡ [] =
       (neither _ _ (neither _ _ e).1).0 in
-      resume_found servers rest (subst (λ o. entered_fault (app servers) o ≡ []) (resume_stops rest) below)
+      resume_found kind rest (subst (λ o. entered_fault (app kind) o ≡ []) (resume_stops rest) below)
 
-  after_explain : (rest : Words) → faults_by servers (codes "explain" ∷ rest) ≡ []
-      → AreExplainRows (rows_after (options servers 8).rules [] rest)
+  after_explain : (rest : Words) → faults_by kind (codes "explain" ∷ rest) ≡ []
+      → AreExplainRows (rows_after (options kind 8).rules [] rest)
   after_explain rest e =
-      let below : entered_fault (app servers) (walk rules names nothing_held (codes "explain" ∷ rest)).stopped ≡ [] =
+      let below : entered_fault (app kind) (walk rules names nothing_held (codes "explain" ∷ rest)).stopped ≡ [] =
       (neither _ _ (neither _ _ e).1).0 in
-      explain_found servers rest (subst (λ o. entered_fault (app servers) o ≡ []) (explain_stops rest) below)
+      explain_found kind rest (subst (λ o. entered_fault (app kind) o ≡ []) (explain_stops rest) below)
 
-  after_draw : (rest : Words) → faults_by servers (codes "draw" ∷ rest) ≡ []
-      → AreDrawRows (rows_after (options servers 9).rules [] rest)
+  after_draw : (rest : Words) → faults_by kind (codes "draw" ∷ rest) ≡ []
+      → AreDrawRows (rows_after (options kind 9).rules [] rest)
   after_draw rest e =
-      let below : entered_fault (app servers) (walk rules names nothing_held (codes "draw" ∷ rest)).stopped ≡ [] =
+      let below : entered_fault (app kind) (walk rules names nothing_held (codes "draw" ∷ rest)).stopped ≡ [] =
       (neither _ _ (neither _ _ e).1).0 in
-      draw_found servers rest (subst (λ o. entered_fault (app servers) o ≡ []) (draw_stops rest) below)
+      draw_found kind rest (subst (λ o. entered_fault (app kind) o ≡ []) (draw_stops rest) below)
 
-  after_drain : (rest : Words) → faults_by servers (codes "plan-drain" ∷ rest) ≡ []
-      → AreDrainRows (rows_after (options servers 10).rules [] rest)
+  after_drain : (rest : Words) → faults_by kind (codes "plan-drain" ∷ rest) ≡ []
+      → AreDrainRows (rows_after (options kind 10).rules [] rest)
   after_drain rest e =
-      let below : entered_fault (app servers) (walk rules names nothing_held (codes "plan-drain" ∷ rest)).stopped ≡ [] =
+      let below : entered_fault (app kind) (walk rules names nothing_held (codes "plan-drain" ∷ rest)).stopped ≡ [] =
       (neither _ _ (neither _ _ e).1).0 in
-      drain_found servers rest (subst (λ o. entered_fault (app servers) o ≡ []) (drain_stops rest) below)
+      drain_found kind rest (subst (λ o. entered_fault (app kind) o ≡ []) (drain_stops rest) below)
 
-  after_forget : (rest : Words) → faults_by servers (codes "forget" ∷ rest) ≡ []
-      → AreForgetRows (rows_after (options servers 11).rules [] rest)
+  after_forget : (rest : Words) → faults_by kind (codes "forget" ∷ rest) ≡ []
+      → AreForgetRows (rows_after (options kind 11).rules [] rest)
   after_forget rest e =
-      let below : entered_fault (app servers) (walk rules names nothing_held (codes "forget" ∷ rest)).stopped ≡ [] =
+      let below : entered_fault (app kind) (walk rules names nothing_held (codes "forget" ∷ rest)).stopped ≡ [] =
       (neither _ _ (neither _ _ e).1).0 in
-      forget_found servers rest (subst (λ o. entered_fault (app servers) o ≡ []) (forget_stops rest) below)
+      forget_found kind rest (subst (λ o. entered_fault (app kind) o ≡ []) (forget_stops rest) below)
 
-  verify_named : (rest : Words) → command_by servers (codes "verify" ∷ rest) ≡ Some
-      (codes "verify", rows_after (options servers 1).rules [] rest)
-  verify_named rest = ap (entered (app servers)) (verify_stops rest)
+  verify_named : (rest : Words) → command_by kind (codes "verify" ∷ rest) ≡ Some
+      (codes "verify", rows_after (options kind 1).rules [] rest)
+  verify_named rest = ap (entered (app kind)) (verify_stops rest)
 
-  plan_reshard_named : (rest : Words) → command_by servers (codes "plan-reshard" ∷ rest) ≡ Some
-      (codes "plan-reshard", rows_after (options servers 2).rules [] rest)
-  plan_reshard_named rest = ap (entered (app servers)) (plan_reshard_stops rest)
+  plan_reshard_named : (rest : Words) → command_by kind (codes "plan-reshard" ∷ rest) ≡ Some
+      (codes "plan-reshard", rows_after (options kind 2).rules [] rest)
+  plan_reshard_named rest = ap (entered (app kind)) (plan_reshard_stops rest)
 
-  plan_rebalance_named : (rest : Words) → command_by servers (codes "plan-rebalance" ∷ rest) ≡ Some
-      (codes "plan-rebalance", rows_after (options servers 3).rules [] rest)
-  plan_rebalance_named rest = ap (entered (app servers)) (plan_rebalance_stops rest)
+  plan_rebalance_named : (rest : Words) → command_by kind (codes "plan-rebalance" ∷ rest) ≡ Some
+      (codes "plan-rebalance", rows_after (options kind 3).rules [] rest)
+  plan_rebalance_named rest = ap (entered (app kind)) (plan_rebalance_stops rest)
 
-  serve_named : (rest : Words) → command_by servers (codes "serve" ∷ rest) ≡ Some
-      (codes "serve", rows_after (options servers 4).rules [] rest)
-  serve_named rest = ap (entered (app servers)) (serve_stops rest)
+  serve_named : (rest : Words) → command_by kind (codes "serve" ∷ rest) ≡ Some
+      (codes "serve", rows_after (options kind 4).rules [] rest)
+  serve_named rest = ap (entered (app kind)) (serve_stops rest)
 
-  survey_named : (rest : Words) → command_by servers (codes "survey" ∷ rest) ≡ Some
-      (codes "survey", rows_after (options servers 5).rules [] rest)
-  survey_named rest = ap (entered (app servers)) (survey_stops rest)
+  survey_named : (rest : Words) → command_by kind (codes "survey" ∷ rest) ≡ Some
+      (codes "survey", rows_after (options kind 5).rules [] rest)
+  survey_named rest = ap (entered (app kind)) (survey_stops rest)
 
-  apply_named : (rest : Words) → command_by servers (codes "apply" ∷ rest) ≡ Some
-      (codes "apply", rows_after (options servers 6).rules [] rest)
-  apply_named rest = ap (entered (app servers)) (apply_stops rest)
+  apply_named : (rest : Words) → command_by kind (codes "apply" ∷ rest) ≡ Some
+      (codes "apply", rows_after (options kind 6).rules [] rest)
+  apply_named rest = ap (entered (app kind)) (apply_stops rest)
 
-  resume_named : (rest : Words) → command_by servers (codes "resume" ∷ rest) ≡ Some
-      (codes "resume", rows_after (options servers 7).rules [] rest)
-  resume_named rest = ap (entered (app servers)) (resume_stops rest)
+  resume_named : (rest : Words) → command_by kind (codes "resume" ∷ rest) ≡ Some
+      (codes "resume", rows_after (options kind 7).rules [] rest)
+  resume_named rest = ap (entered (app kind)) (resume_stops rest)
 
-  explain_named : (rest : Words) → command_by servers (codes "explain" ∷ rest) ≡ Some
-      (codes "explain", rows_after (options servers 8).rules [] rest)
-  explain_named rest = ap (entered (app servers)) (explain_stops rest)
+  explain_named : (rest : Words) → command_by kind (codes "explain" ∷ rest) ≡ Some
+      (codes "explain", rows_after (options kind 8).rules [] rest)
+  explain_named rest = ap (entered (app kind)) (explain_stops rest)
 
-  draw_named : (rest : Words) → command_by servers (codes "draw" ∷ rest) ≡ Some
-      (codes "draw", rows_after (options servers 9).rules [] rest)
-  draw_named rest = ap (entered (app servers)) (draw_stops rest)
+  draw_named : (rest : Words) → command_by kind (codes "draw" ∷ rest) ≡ Some
+      (codes "draw", rows_after (options kind 9).rules [] rest)
+  draw_named rest = ap (entered (app kind)) (draw_stops rest)
 
-  drain_named : (rest : Words) → command_by servers (codes "plan-drain" ∷ rest) ≡ Some
-      (codes "plan-drain", rows_after (options servers 10).rules [] rest)
-  drain_named rest = ap (entered (app servers)) (drain_stops rest)
+  drain_named : (rest : Words) → command_by kind (codes "plan-drain" ∷ rest) ≡ Some
+      (codes "plan-drain", rows_after (options kind 10).rules [] rest)
+  drain_named rest = ap (entered (app kind)) (drain_stops rest)
 
-  forget_named : (rest : Words) → command_by servers (codes "forget" ∷ rest) ≡ Some
-      (codes "forget", rows_after (options servers 11).rules [] rest)
-  forget_named rest = ap (entered (app servers)) (forget_stops rest)
+  forget_named : (rest : Words) → command_by kind (codes "forget" ∷ rest) ≡ Some
+      (codes "forget", rows_after (options kind 11).rules [] rest)
+  forget_named rest = ap (entered (app kind)) (forget_stops rest)
 
-end_alone : (servers : Bool) (rest : Words) → faults_by servers (codes "--" ∷ rest) ≡ [] → ⊥
+end_alone : (kind : StartKind) (rest : Words) → faults_by kind (codes "--" ∷ rest) ≡ [] → ⊥
 unfolding clap_on_literals
-end_alone servers [] e = cc
-end_alone servers (word ∷ rest) e = cc
+end_alone kind [] e = cc
+end_alone kind (word ∷ rest) e = cc
 
 nothing_alone : faults [] ≡ [] → ⊥
 unfolding clap_on_literals
 nothing_alone e = cc
 
-first_turn : (servers : Bool) (word : Text) (rest : Words) → faults_by servers (word ∷ rest) ≡ []
+first_turn : (kind : StartKind) (word : Text) (rest : Words) → faults_by kind (word ∷ rest) ≡ []
     → turn_fault above.top names (walk_from nothing_held) word ≡ []
 unfolding walk_fault
-first_turn servers word rest e = (neither _ _ (neither _ _ e).0).0
+first_turn kind word rest e = (neither _ _ (neither _ _ e).0).0
 
 -- words that name this subcommand, with such rows of its options
-record IsNamedBy (servers : Bool) (words : Words) (name : Text) (P : List Row → Type 0) : Type 0 where
+record IsNamedBy (kind : StartKind) (words : Words) (name : Text) (P : List Row → Type 0) : Type 0 where
   rows : List Row
-  named : command_by servers words ≡ Some (name, rows)
+  named : command_by kind words ≡ Some (name, rows)
   fits : P rows
 
-abbrev IsTakenBy : (servers : Bool) → Words → Type 0
-IsTakenBy servers words = IsRehearsal words
-    ⊎ (IsNamedBy servers words (codes "verify") AreStartRows
-    ⊎ (IsNamedBy servers words (codes "plan-reshard") AreReshardRows
-    ⊎ (IsNamedBy servers words (codes "plan-rebalance") AreRebalanceRows
-    ⊎ (IsNamedBy servers words (codes "serve") AreServeRows
-    ⊎ (IsNamedBy servers words (codes "survey") AreSurveyRows
-    ⊎ (IsNamedBy servers words (codes "apply") AreApplyRows
-    ⊎ (IsNamedBy servers words (codes "resume") AreResumeRows
-    ⊎ (IsNamedBy servers words (codes "explain") AreExplainRows
-    ⊎ (IsNamedBy servers words (codes "draw") AreDrawRows
-    ⊎ (IsNamedBy servers words (codes "plan-drain") AreDrainRows
-    ⊎ (IsNamedBy servers words (codes "forget") AreForgetRows)))))))))))
+abbrev IsTakenBy : (kind : StartKind) → Words → Type 0
+IsTakenBy kind words = IsRehearsal words
+    ⊎ (IsNamedBy kind words (codes "verify") AreStartRows
+    ⊎ (IsNamedBy kind words (codes "plan-reshard") AreReshardRows
+    ⊎ (IsNamedBy kind words (codes "plan-rebalance") AreRebalanceRows
+    ⊎ (IsNamedBy kind words (codes "serve") AreServeRows
+    ⊎ (IsNamedBy kind words (codes "survey") AreSurveyRows
+    ⊎ (IsNamedBy kind words (codes "apply") AreApplyRows
+    ⊎ (IsNamedBy kind words (codes "resume") AreResumeRows
+    ⊎ (IsNamedBy kind words (codes "explain") AreExplainRows
+    ⊎ (IsNamedBy kind words (codes "draw") AreDrawRows
+    ⊎ (IsNamedBy kind words (codes "plan-drain") AreDrainRows
+    ⊎ (IsNamedBy kind words (codes "forget") AreForgetRows)))))))))))
 
-taken_by : (servers : Bool) (word : Text) (rest : Words) → faults_by servers (word ∷ rest) ≡ [] → IsFirst word
-    → IsTakenBy servers (word ∷ rest)
-taken_by servers word rest e (inl is) = elim (after_rehearse servers rest (rw is at e)) [
+taken_by : (kind : StartKind) (word : Text) (rest : Words) → faults_by kind (word ∷ rest) ≡ [] → IsFirst word
+    → IsTakenBy kind (word ∷ rest)
+taken_by kind word rest e (inl is) = elim (after_rehearse kind rest (rw is at e)) [
   | inl none ↦ inl (inl (rw (is, none) refl))
   | inr end ↦ inl (inr (rw (is, end) refl))
 ]
-taken_by servers word rest e (inr (inl is)) =
+taken_by kind word rest e (inr (inl is)) =
     inr (inl (record {
-      rows = rows_after (options servers 1).rules [] rest;
+      rows = rows_after (options kind 1).rules [] rest;
       named =
-          rw is (verify_named servers rest);
-      fits = after_verify servers rest (rw is at e);
+          rw is (verify_named kind rest);
+      fits = after_verify kind rest (rw is at e);
     }))
-taken_by servers word rest e (inr (inr (inl is))) =
+taken_by kind word rest e (inr (inr (inl is))) =
     inr (inr (inl (record {
-      rows = rows_after (options servers 2).rules [] rest;
+      rows = rows_after (options kind 2).rules [] rest;
       named =
-          rw is (plan_reshard_named servers rest);
-      fits = after_plan_reshard servers rest (rw is at e);
+          rw is (plan_reshard_named kind rest);
+      fits = after_plan_reshard kind rest (rw is at e);
     })))
-taken_by servers word rest e (inr (inr (inr (inl is)))) =
+taken_by kind word rest e (inr (inr (inr (inl is)))) =
     inr (inr (inr (inl (record {
-      rows = rows_after (options servers 3).rules [] rest;
+      rows = rows_after (options kind 3).rules [] rest;
       named =
-          rw is (plan_rebalance_named servers rest);
-      fits = after_plan_rebalance servers rest (rw is at e);
+          rw is (plan_rebalance_named kind rest);
+      fits = after_plan_rebalance kind rest (rw is at e);
     }))))
-taken_by servers word rest e (inr (inr (inr (inr (inl is))))) =
+taken_by kind word rest e (inr (inr (inr (inr (inl is))))) =
     inr (inr (inr (inr (inl (record {
-      rows = rows_after (options servers 4).rules [] rest;
+      rows = rows_after (options kind 4).rules [] rest;
       named =
-          rw is (serve_named servers rest);
-      fits = after_serve servers rest (rw is at e);
+          rw is (serve_named kind rest);
+      fits = after_serve kind rest (rw is at e);
     })))))
-taken_by servers word rest e (inr (inr (inr (inr (inr (inl is)))))) =
+taken_by kind word rest e (inr (inr (inr (inr (inr (inl is)))))) =
     inr (inr (inr (inr (inr (inl (record {
-      rows = rows_after (options servers 5).rules [] rest;
+      rows = rows_after (options kind 5).rules [] rest;
       named =
-          rw is (survey_named servers rest);
-      fits = after_survey servers rest (rw is at e);
+          rw is (survey_named kind rest);
+      fits = after_survey kind rest (rw is at e);
     }))))))
-taken_by servers word rest e (inr (inr (inr (inr (inr (inr (inl is))))))) =
+taken_by kind word rest e (inr (inr (inr (inr (inr (inr (inl is))))))) =
     inr (inr (inr (inr (inr (inr (inl (record {
-      rows = rows_after (options servers 6).rules [] rest;
+      rows = rows_after (options kind 6).rules [] rest;
       named =
-          rw is (apply_named servers rest);
-      fits = after_apply servers rest (rw is at e);
+          rw is (apply_named kind rest);
+      fits = after_apply kind rest (rw is at e);
     })))))))
-taken_by servers word rest e (inr (inr (inr (inr (inr (inr (inr (inl is)))))))) =
+taken_by kind word rest e (inr (inr (inr (inr (inr (inr (inr (inl is)))))))) =
     inr (inr (inr (inr (inr (inr (inr (inl (record {
-      rows = rows_after (options servers 7).rules [] rest;
+      rows = rows_after (options kind 7).rules [] rest;
       named =
-          rw is (resume_named servers rest);
-      fits = after_resume servers rest (rw is at e);
+          rw is (resume_named kind rest);
+      fits = after_resume kind rest (rw is at e);
     }))))))))
-taken_by servers word rest e (inr (inr (inr (inr (inr (inr (inr (inr (inl is))))))))) =
+taken_by kind word rest e (inr (inr (inr (inr (inr (inr (inr (inr (inl is))))))))) =
     inr (inr (inr (inr (inr (inr (inr (inr (inl (record {
-      rows = rows_after (options servers 8).rules [] rest;
+      rows = rows_after (options kind 8).rules [] rest;
       named =
-          rw is (explain_named servers rest);
-      fits = after_explain servers rest (rw is at e);
+          rw is (explain_named kind rest);
+      fits = after_explain kind rest (rw is at e);
     })))))))))
-taken_by servers word rest e (inr (inr (inr (inr (inr (inr (inr (inr (inr (inl is)))))))))) =
+taken_by kind word rest e (inr (inr (inr (inr (inr (inr (inr (inr (inr (inl is)))))))))) =
     inr (inr (inr (inr (inr (inr (inr (inr (inr (inl (record {
       rows =
-          rows_after (options servers 9).rules [] rest;
-      named = rw is (draw_named servers rest);
+          rows_after (options kind 9).rules [] rest;
+      named = rw is (draw_named kind rest);
       fits =
-          after_draw servers rest (rw is at e);
+          after_draw kind rest (rw is at e);
     }))))))))))
-taken_by servers word rest e (inr (inr (inr (inr (inr (inr (inr (inr (inr (inr (inl (is)))))))))))) =
+taken_by kind word rest e (inr (inr (inr (inr (inr (inr (inr (inr (inr (inr (inl (is)))))))))))) =
     inr (inr (inr (inr (inr (inr (inr (inr (inr (inr (inl (record {
-      rows = rows_after (options servers 10).rules [] rest;
-      named = rw is (drain_named servers rest);
-      fits = after_drain servers rest (rw is at e);
+      rows = rows_after (options kind 10).rules [] rest;
+      named = rw is (drain_named kind rest);
+      fits = after_drain kind rest (rw is at e);
     })))))))))))
-taken_by servers word rest e (inr (inr (inr (inr (inr (inr (inr (inr (inr (inr (inr (inl (is))))))))))))) =
+taken_by kind word rest e (inr (inr (inr (inr (inr (inr (inr (inr (inr (inr (inr (inl (is))))))))))))) =
     inr (inr (inr (inr (inr (inr (inr (inr (inr (inr (inr (record {
-      rows = rows_after (options servers 11).rules [] rest;
-      named = rw is (forget_named servers rest);
-      fits = after_forget servers rest (rw is at e);
+      rows = rows_after (options kind 11).rules [] rest;
+      named = rw is (forget_named kind rest);
+      fits = after_forget kind rest (rw is at e);
     })))))))))))
-taken_by servers word rest e (inr (inr (inr (inr (inr (inr (inr (inr (inr (inr (inr (inr (is))))))))))))) =
-    absurd (end_alone servers rest (rw is at e))
+taken_by kind word rest e (inr (inr (inr (inr (inr (inr (inr (inr (inr (inr (inr (inr (is))))))))))))) =
+    absurd (end_alone kind rest (rw is at e))
 
 abbrev IsNamed : (words : Words) (name : Text) → (List Row → Type 0) → Type 0
-IsNamed words = IsNamedBy (names_cluster words) words
+IsNamed words = IsNamedBy (start_kind words) words
 
 abbrev IsTaken : Words → Type 0
-IsTaken words = IsTakenBy (names_cluster words) words
+IsTaken words = IsTakenBy (start_kind words) words
 
 taken : (words : Words) → faults words ≡ [] → IsTaken words
 taken [] e = absurd (nothing_alone e)
-taken (word ∷ rest) e = taken_by (names_cluster (word ∷ rest)) word rest e
-    (first_word word (first_turn (names_cluster (word ∷ rest)) word rest e))
+taken (word ∷ rest) e = taken_by (start_kind (word ∷ rest)) word rest e
+    (first_word word (first_turn (start_kind (word ∷ rest)) word rest e))
 
 rehearse_named : command_in (codes "rehearse" ∷ []) ≡ Some (codes "rehearse", [])
 unfolding clap_on_literals
@@ -624,7 +626,17 @@ no_fault NoCount h =
     let none : None ≡ Some h.0 = h.1 in
     cc
 no_fault NowAlone h =
-    let none : None ≡ Some h.0.nodes = h.1.0.0 in
+    let is : false ≡ true = h.1 in
+    cc
+no_fault SurveyBeside h = cc
+no_fault TwoLogStarts h =
+    let is : false ≡ true = h.0 in
+    cc
+no_fault NoLog (none, inl given) =
+    let is : false ≡ true = given in
+    cc
+no_fault NoLog (none, inr given) =
+    let is : false ≡ true = given in
     cc
 
 -- nor is a rehearsal a subcommand whose options have a fault
@@ -1113,22 +1125,22 @@ asked words fault (Wrong text) (inr among) reported = inl (fault, among, reporte
 
 -- ---- what a parse says of its command is said of this one
 
-simple_and_free : (servers : Bool) → is_simple_and_free (reshard servers) ≡ true
-simple_and_free servers = refl
+simple_and_free : (kind : StartKind) → is_simple_and_free (reshard kind) ≡ true
+simple_and_free kind = refl
 
-pub found : (P : Kinds → Type 0) (command : App) (given words : Words) → command ≡ reshard (names_cluster words)
+pub found : (P : Kinds → Type 0) (command : App) (given words : Words) → command ≡ reshard (start_kind words)
     → given ≡ codes "reshard" ∷ words
     → (is_simple_and_free command ≡ true → P (fault_of command given)) → P (faults words)
 found P command given words is are says = subst P (ap₂ fault_of is are)
-    (says (ap is_simple_and_free is ∙ simple_and_free (names_cluster words)))
+    (says (ap is_simple_and_free is ∙ simple_and_free (start_kind words)))
 
-simple : (servers : Bool) → is_simple (reshard servers) ≡ true
-simple servers = refl
+simple : (kind : StartKind) → is_simple (reshard kind) ≡ true
+simple kind = refl
 
-pub met : (command : App) (given words : Words) (m : ArgMatches) → command ≡ reshard (names_cluster words)
+pub met : (command : App) (given words : Words) (m : ArgMatches) → command ≡ reshard (start_kind words)
     → given ≡ codes "reshard" ∷ words
     → HasMatchesOf command given m → subcommand_rows_of m ≡ command_in words
-met command given words m is are has = (has (ap is_simple is ∙ simple (names_cluster words))).1
+met command given words m is are has = (has (ap is_simple is ∙ simple (start_kind words))).1
     ∙ ap₂ subcommand_of is are
 
 -- where nothing is at fault, a parse fails out of memory alone
@@ -1204,6 +1216,9 @@ fault_line : (fault : OptionFault) → EndsLine (fault_text fault)
 fault_line (Uneven s) = uneven_line s
 fault_line TwoStarts = (codes "error: --cluster stands in place of --nodes and --even", refl)
 fault_line NoCluster = (codes "error: --expect goes with --cluster", refl)
+fault_line SurveyBeside = (codes "error: --survey stands in place of --cluster, --nodes and --even", refl)
+fault_line TwoLogStarts = (codes "error: --append and --overwrite do not go together", refl)
+fault_line NoLog = (codes "error: --append and --overwrite go with --log", refl)
 fault_line NowAlone = (codes "error: --now goes with --cluster", refl)
 fault_line NoCount = (codes "error: --slots is a number, 0 to 16384, or all", refl)
 fault_line NoAddress = (codes "error: --cluster is 1 to 8 addresses as 127.0.0.1:7000, with commas between them", refl)

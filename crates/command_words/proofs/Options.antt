@@ -1,5 +1,5 @@
 -- What is found of the options of a command whose words are taken, and what is read of them.
-use Rattle.std.proofs.Common.{◌≡◌, ◌∙◌, ◌||◌, ◌⊎◌, ◌≤◌, ◌<◌, ◌^◌, ℕ, refl, sym, ap, ap₂, inl, inr, codes, List, []}
+use Rattle.std.proofs.Common.{◌≡◌, ◌∙◌, ◌||◌, ◌⊎◌, ◌≤◌, ◌<◌, ◌^◌, ℕ, refl, sym, subst, ap, ap₂, inl, inr, codes, List, []}
 use Rattle.std.proofs.Common.{Option, Some, None, Bor}
 use Rattle.std.specs.Prelude.{Result, Ok, false, true, not, option_map, option_and_then, unwrap_or, Bool, IfSome}
 use Rattle.std.specs.Prelude.{IsSome, find, is_some, pos, slice_get}
@@ -20,6 +20,7 @@ use Rattle.clap.specs.Facts.{parser_of_value}
 use Rattle.clap.specs.declared.parser.matches.Found.{Found}
 use Rattle.clap.specs.Faults.{level_fault}
 use Rattle.clap.specs.declared.builder.value_parser.Reading.TheVariants.{AsWritten, WithoutMinus}
+use Rattle.clap.specs.declared.builder.value_parser.ValueParser.{ValueParser}
 use Rattle.clap.specs.declared.builder.value_parser.ValueParser.TheVariants as vp
 use Rattle.command_words.specs.Clusters.{AreApplyRows, is_sized}
 use Rattle.command_words.specs.Forgetting.{AreForgetRows}
@@ -29,7 +30,10 @@ use Rattle.command_words.specs.Planning.{AreDrainRows, AreRebalanceRows, AreResh
 use Rattle.command_words.specs.Resuming.{AreResumeRows}
 use Rattle.command_words.specs.Serving.{AreServeRows}
 use Rattle.command_words.specs.Showing.{AreDrawRows, AreExplainRows}
+use Rattle.command_words.specs.StartKinds.{is_cluster, is_even, is_survey}
 use Rattle.command_words.specs.Starts.{AreStartRows}
+use Rattle.command_words.specs.declared.start_kind.StartKind.{StartKind}
+use Rattle.command_words.specs.declared.start_kind.StartKind.TheVariants.{Cluster, Even, Survey as BySurvey}
 use Rattle.command_words.specs.CommandLine.{reshard}
 use Rattle.command_words.proofs.Walks.{Fits, IsOwn, has_some, is_counted, no_option, option_value, required_are_there}
 use Rattle.command_words.proofs.Walks.{rows_fit}
@@ -37,11 +41,11 @@ use Rattle.command_words.proofs.Walks.{rows_fit}
 -- ---- what is found of the options of each command
 
 -- in the one form of the command line or the other
-abbrev pub leaf : (servers : Bool) → ℕ → Shape
-leaf servers k = slice_index_or (built (reshard servers)).subs k (built (reshard servers)).top
+abbrev pub leaf : (kind : StartKind) → ℕ → Shape
+leaf kind k = slice_index_or (built (reshard kind)).subs k (built (reshard kind)).top
 
-abbrev rule : (servers : Bool) → ℕ → ℕ → Rule
-rule servers k i = slice_index_or (leaf servers k).rules i help_rule
+abbrev rule : (kind : StartKind) → ℕ → ℕ → Rule
+rule kind k i = slice_index_or (leaf kind k).rules i help_rule
 
 module _ (rules : List Rule) where
   plain : (a : Rule) → arg_by_id rules a.id ≡ Some a → (is_request (action_of a) || has_some a) ≡ true
@@ -55,92 +59,8 @@ module _ (rules : List Rule) where
         exact_case;
   }
 
-verify_own : (servers : Bool) → AllByRecursion (IsOwn (leaf servers 1).rules) (leaf servers 1).rules
-verify_own servers = (
-  plain _ _ refl refl refl refl,
-  (
-    plain _ _ refl refl refl refl,
-    (
-      plain _ _ refl refl refl refl,
-      (plain _ _ refl refl refl refl, (plain _ _ refl refl refl refl, (plain _ _ refl refl refl refl, tt))),
-    ),
-  ),
-)
-
-reshard_own : (servers : Bool) → AllByRecursion (IsOwn (leaf servers 2).rules) (leaf servers 2).rules
-reshard_own servers = (
-  plain _ _ refl refl refl refl,
-  (
-    plain _ _ refl refl refl refl,
-    (
-      plain _ _ refl refl refl refl,
-      (
-        plain _ _ refl refl refl refl,
-        (
-          plain _ _ refl refl refl refl,
-          (
-            plain _ _ refl refl refl refl,
-            (
-              plain _ _ refl refl refl refl,
-              (plain _ _ refl refl refl refl, (plain _ _ refl refl refl refl, (plain _ _ refl refl refl refl, tt))),
-            ),
-          ),
-        ),
-      ),
-    ),
-  ),
-)
-
-rebalance_own : (servers : Bool) → AllByRecursion (IsOwn (leaf servers 3).rules) (leaf servers 3).rules
-rebalance_own servers = (
-  plain _ _ refl refl refl refl,
-  (
-    plain _ _ refl refl refl refl,
-    (
-      plain _ _ refl refl refl refl,
-      (
-        plain _ _ refl refl refl refl,
-        (
-          plain _ _ refl refl refl refl,
-          (
-            plain _ _ refl refl refl refl,
-            (
-              plain _ _ refl refl refl refl,
-              (plain _ _ refl refl refl refl, (plain _ _ refl refl refl refl, (plain _ _ refl refl refl refl, tt))),
-            ),
-          ),
-        ),
-      ),
-    ),
-  ),
-)
-
-serve_own : (servers : Bool) → AllByRecursion (IsOwn (leaf servers 4).rules) (leaf servers 4).rules
-serve_own servers = (
-  plain _ _ refl refl refl refl,
-  (
-    plain _ _ refl refl refl refl,
-    (
-      plain _ _ refl refl refl refl,
-      (
-        plain _ _ refl refl refl refl,
-        (
-          plain _ _ refl refl refl refl,
-          (
-            plain _ _ refl refl refl refl,
-            (
-              plain _ _ refl refl refl refl,
-              (plain _ _ refl refl refl refl, (plain _ _ refl refl refl refl, tt)),
-            ),
-          ),
-        ),
-      ),
-    ),
-  ),
-)
-
-survey_own : (servers : Bool) → AllByRecursion (IsOwn (leaf servers 5).rules) (leaf servers 5).rules
-survey_own servers = (
+verify_own : (kind : StartKind) → AllByRecursion (IsOwn (leaf kind 1).rules) (leaf kind 1).rules
+verify_own kind = (
   plain _ _ refl refl refl refl,
   (
     plain _ _ refl refl refl refl,
@@ -154,8 +74,8 @@ survey_own servers = (
   ),
 )
 
-apply_own : (servers : Bool) → AllByRecursion (IsOwn (leaf servers 6).rules) (leaf servers 6).rules
-apply_own servers = (
+reshard_own : (kind : StartKind) → AllByRecursion (IsOwn (leaf kind 2).rules) (leaf kind 2).rules
+reshard_own kind = (
   plain _ _ refl refl refl refl,
   (
     plain _ _ refl refl refl refl,
@@ -181,8 +101,110 @@ apply_own servers = (
   ),
 )
 
-resume_own : (servers : Bool) → AllByRecursion (IsOwn (leaf servers 7).rules) (leaf servers 7).rules
-resume_own servers = (
+rebalance_own : (kind : StartKind) → AllByRecursion (IsOwn (leaf kind 3).rules) (leaf kind 3).rules
+rebalance_own kind = (
+  plain _ _ refl refl refl refl,
+  (
+    plain _ _ refl refl refl refl,
+    (
+      plain _ _ refl refl refl refl,
+      (
+        plain _ _ refl refl refl refl,
+        (
+          plain _ _ refl refl refl refl,
+          (
+            plain _ _ refl refl refl refl,
+            (
+              plain _ _ refl refl refl refl,
+              (
+                plain _ _ refl refl refl refl,
+                (plain _ _ refl refl refl refl, (plain _ _ refl refl refl refl, (plain _ _ refl refl refl refl, tt))),
+              ),
+            ),
+          ),
+        ),
+      ),
+    ),
+  ),
+)
+
+serve_own : (kind : StartKind) → AllByRecursion (IsOwn (leaf kind 4).rules) (leaf kind 4).rules
+serve_own kind = (
+  plain _ _ refl refl refl refl,
+  (
+    plain _ _ refl refl refl refl,
+    (
+      plain _ _ refl refl refl refl,
+      (
+        plain _ _ refl refl refl refl,
+        (
+          plain _ _ refl refl refl refl,
+          (
+            plain _ _ refl refl refl refl,
+            (
+              plain _ _ refl refl refl refl,
+              (plain _ _ refl refl refl refl, (plain _ _ refl refl refl refl, tt)),
+            ),
+          ),
+        ),
+      ),
+    ),
+  ),
+)
+
+survey_own : (kind : StartKind) → AllByRecursion (IsOwn (leaf kind 5).rules) (leaf kind 5).rules
+survey_own kind = (
+  plain _ _ refl refl refl refl,
+  (
+    plain _ _ refl refl refl refl,
+    (
+      plain _ _ refl refl refl refl,
+      (
+        plain _ _ refl refl refl refl,
+        (
+          plain _ _ refl refl refl refl,
+          (plain _ _ refl refl refl refl, (plain _ _ refl refl refl refl, (plain _ _ refl refl refl refl, tt))),
+        ),
+      ),
+    ),
+  ),
+)
+
+apply_own : (kind : StartKind) → AllByRecursion (IsOwn (leaf kind 6).rules) (leaf kind 6).rules
+apply_own kind = (
+  plain _ _ refl refl refl refl,
+  (
+    plain _ _ refl refl refl refl,
+    (
+      plain _ _ refl refl refl refl,
+      (
+        plain _ _ refl refl refl refl,
+        (
+          plain _ _ refl refl refl refl,
+          (
+            plain _ _ refl refl refl refl,
+            (
+              plain _ _ refl refl refl refl,
+              (
+                plain _ _ refl refl refl refl,
+                (
+                  plain _ _ refl refl refl refl,
+                  (
+                    plain _ _ refl refl refl refl,
+                    (plain _ _ refl refl refl refl, (plain _ _ refl refl refl refl, (plain _ _ refl refl refl refl, tt))),
+                  ),
+                ),
+              ),
+            ),
+          ),
+        ),
+      ),
+    ),
+  ),
+)
+
+resume_own : (kind : StartKind) → AllByRecursion (IsOwn (leaf kind 7).rules) (leaf kind 7).rules
+resume_own kind = (
   plain _ _ refl refl refl refl,
   (
     plain _ _ refl refl refl refl,
@@ -211,8 +233,8 @@ resume_own servers = (
   ),
 )
 
-explain_own : (servers : Bool) → AllByRecursion (IsOwn (leaf servers 8).rules) (leaf servers 8).rules
-explain_own servers = (
+explain_own : (kind : StartKind) → AllByRecursion (IsOwn (leaf kind 8).rules) (leaf kind 8).rules
+explain_own kind = (
   plain _ _ refl refl refl refl,
   (
     plain _ _ refl refl refl refl,
@@ -222,15 +244,18 @@ explain_own servers = (
         plain _ _ refl refl refl refl,
         (
           plain _ _ refl refl refl refl,
-          (plain _ _ refl refl refl refl, (plain _ _ refl refl refl refl, tt)),
+          (
+            plain _ _ refl refl refl refl,
+            (plain _ _ refl refl refl refl, (plain _ _ refl refl refl refl, tt)),
+          ),
         ),
       ),
     ),
   ),
 )
 
-draw_own : (servers : Bool) → AllByRecursion (IsOwn (leaf servers 9).rules) (leaf servers 9).rules
-draw_own servers = (
+draw_own : (kind : StartKind) → AllByRecursion (IsOwn (leaf kind 9).rules) (leaf kind 9).rules
+draw_own kind = (
   plain _ _ refl refl refl refl,
   (
     plain _ _ refl refl refl refl,
@@ -238,14 +263,17 @@ draw_own servers = (
       plain _ _ refl refl refl refl,
       (
         plain _ _ refl refl refl refl,
-        (plain _ _ refl refl refl refl, (plain _ _ refl refl refl refl, (plain _ _ refl refl refl refl, tt))),
+        (
+          plain _ _ refl refl refl refl,
+          (plain _ _ refl refl refl refl, (plain _ _ refl refl refl refl, (plain _ _ refl refl refl refl, tt))),
+        ),
       ),
     ),
   ),
 )
 
-drain_own : (servers : Bool) → AllByRecursion (IsOwn (leaf servers 10).rules) (leaf servers 10).rules
-drain_own servers = (
+drain_own : (kind : StartKind) → AllByRecursion (IsOwn (leaf kind 10).rules) (leaf kind 10).rules
+drain_own kind = (
   plain _ _ refl refl refl refl,
   (
     plain _ _ refl refl refl refl,
@@ -259,7 +287,10 @@ drain_own servers = (
             plain _ _ refl refl refl refl,
             (
               plain _ _ refl refl refl refl,
-              (plain _ _ refl refl refl refl, (plain _ _ refl refl refl refl, tt)),
+              (
+                plain _ _ refl refl refl refl,
+                (plain _ _ refl refl refl refl, (plain _ _ refl refl refl refl, tt)),
+              ),
             ),
           ),
         ),
@@ -268,8 +299,8 @@ drain_own servers = (
   ),
 )
 
-forget_own : (servers : Bool) → AllByRecursion (IsOwn (leaf servers 11).rules) (leaf servers 11).rules
-forget_own servers = (
+forget_own : (kind : StartKind) → AllByRecursion (IsOwn (leaf kind 11).rules) (leaf kind 11).rules
+forget_own kind = (
   plain _ _ refl refl refl refl,
   (
     plain _ _ refl refl refl refl,
@@ -278,222 +309,241 @@ forget_own servers = (
 )
 
 -- the words of the command at this place
-module _ (servers : Bool) (k : ℕ) (words : List Text) where
+module _ (kind : StartKind) (k : ℕ) (words : List Text) where
   abbrev found : List Row
-  found = rows_after (leaf servers k).rules [] words
+  found = rows_after (leaf kind k).rules [] words
 
   abbrev FitAll : Type 0
-  FitAll = AllByRecursion (Fits (leaf servers k).rules) found
+  FitAll = AllByRecursion (Fits (leaf kind k).rules) found
 
   -- an option of it
-  of_rule : (i : ℕ) → FitAll → arg_by_id (leaf servers k).rules (rule servers k i).id ≡ Some (rule servers k i)
-      → MayGive (rule servers k i).id (parser_of_value (rule servers k i).parser) found
-  of_rule i fit is = option_value (leaf servers k).rules found (rule servers k i).id (rule servers k i) fit is
+  of_rule : (i : ℕ) → FitAll → arg_by_id (leaf kind k).rules (rule kind k i).id ≡ Some (rule kind k i)
+      → MayGive (rule kind k i).id (parser_of_value (rule kind k i).parser) found
+  of_rule i fit is = option_value (leaf kind k).rules found (rule kind k i).id (rule kind k i) fit is
 
   -- and one of others
-  no_text : (id : Text) → FitAll → arg_by_id (leaf servers k).rules id ≡ None → first_of id found ≡ None
+  no_text : (id : Text) → FitAll → arg_by_id (leaf kind k).rules id ≡ None → first_of id found ≡ None
   no_text id fit none = ap (option_and_then (λ r. slice_get r.values 0))
-      (no_option (leaf servers k).rules found id fit none)
+      (no_option (leaf kind k).rules found id fit none)
 
-  no_number : (id : Text) → FitAll → arg_by_id (leaf servers k).rules id ≡ None → is_some (number_of id found) ≡ false
+  no_value : (id : Text) (parser : ValueParser) → FitAll → arg_by_id (leaf kind k).rules id ≡ None
+      → MayGive id parser found
+  no_value id parser fit none = subst (λ o. IfSome o (IsValue parser))
+      (sym (no_option (leaf kind k).rules found id fit none)) tt
+
+  no_number : (id : Text) → FitAll → arg_by_id (leaf kind k).rules id ≡ None → is_some (number_of id found) ≡ false
   no_number id fit none =
       ap (λ (o : Option Row). is_some (option_map (λ t. digits_value 10 (without_leading_plus t))
       (option_and_then row_text o)))
-      (no_option (leaf servers k).rules found id fit none)
+      (no_option (leaf kind k).rules found id fit none)
 
-  no_sizes : FitAll → arg_by_id (leaf servers k).rules (codes "nodes") ≡ None
-      → arg_by_id (leaf servers k).rules (codes "even") ≡ None
+  no_sizes : FitAll → arg_by_id (leaf kind k).rules (codes "nodes") ≡ None
+      → arg_by_id (leaf kind k).rules (codes "even") ≡ None
       → is_sized found ≡ false
   no_sizes fit nodes even = ap₂ ◌||◌ (no_number (codes "nodes") fit nodes) (no_number (codes "even") fit even)
 
--- the one or the other has to be there
-either : (servers : Bool) (rows : List Row) → (not servers ≡ true → IsGiven (codes "nodes") rows)
-    → (servers ≡ true → IsGiven (codes "cluster") rows)
-    → IsGiven (codes "nodes") rows ⊎ IsGiven (codes "cluster") rows
-either true rows nodes cluster = inr (cluster refl)
-either false rows nodes cluster = inl (nodes refl)
+-- one of them has to be there
+one_of_three : (kind : StartKind) (rows : List Row) → (is_even kind ≡ true → IsGiven (codes "nodes") rows)
+    → (is_cluster kind ≡ true → IsGiven (codes "cluster") rows)
+    → (is_survey kind ≡ true → IsGiven (codes "survey") rows)
+    → IsGiven (codes "nodes") rows ⊎ (IsGiven (codes "cluster") rows ⊎ IsGiven (codes "survey") rows)
+one_of_three Even rows nodes cluster file = inl (nodes refl)
+one_of_three Cluster rows nodes cluster file = inr (inl (cluster refl))
+one_of_three BySurvey rows nodes cluster file = inr (inr (file refl))
 
-module _ (servers : Bool) (words : List Text) where
+module _ (kind : StartKind) (words : List Text) where
   abbrev IsTaken : ℕ → Type 0
-  IsTaken k = level_fault (leaf servers k) [] nothing_held words false [] ≡ []
+  IsTaken k = level_fault (leaf kind k) [] nothing_held words false [] ≡ []
 
   abbrev rows : ℕ → List Row
-  rows k = found servers k words
+  rows k = found kind k words
 
   pub starts_found : IsTaken 1 → AreStartRows (rows 1)
   starts_found e =
-      let fit = rows_fit (leaf servers 1) [] words false [] (verify_own servers) e in
-      let there = required_are_there (leaf servers 1) words refl e in
+      let fit = rows_fit (leaf kind 1) [] words false [] (verify_own kind) e in
+      let there = required_are_there (leaf kind 1) words refl e in
       record {
-        even = of_rule servers 1 words 1 fit refl;
-        nodes = of_rule servers 1 words 0 fit refl;
-        cluster = of_rule servers 1 words 2 fit refl;
-        there = either servers (rows 1) there.0 there.1.1.0;
+        even = of_rule kind 1 words 1 fit refl;
+        nodes = of_rule kind 1 words 0 fit refl;
+        cluster = of_rule kind 1 words 2 fit refl;
+        survey = of_rule kind 1 words 4 fit refl;
+        there = one_of_three kind (rows 1) there.0 there.1.1.0 there.1.1.1.1.0;
       }
 
   pub reshard_found : IsTaken 2 → AreReshardRows (rows 2)
   reshard_found e =
-      let fit = rows_fit (leaf servers 2) [] words false [] (reshard_own servers) e in
-      let there = required_are_there (leaf servers 2) words refl e in
+      let fit = rows_fit (leaf kind 2) [] words false [] (reshard_own kind) e in
+      let there = required_are_there (leaf kind 2) words refl e in
       record {
         start = record {
-          even = of_rule servers 2 words 1 fit refl;
-          nodes = of_rule servers 2 words 0 fit refl;
-          cluster = of_rule servers 2 words 2 fit refl;
-          there = either servers (rows 2) there.0 there.1.1.0;
+          even = of_rule kind 2 words 1 fit refl;
+          nodes = of_rule kind 2 words 0 fit refl;
+          cluster = of_rule kind 2 words 2 fit refl;
+          survey = of_rule kind 2 words 4 fit refl;
+          there = one_of_three kind (rows 2) there.0 there.1.1.0 there.1.1.1.1.0;
         };
-        from_text = of_rule servers 2 words 4 fit refl;
-        from_there = there.1.1.1.1.0 refl;
-        to_text = of_rule servers 2 words 5 fit refl;
-        to_there = there.1.1.1.1.1.0 refl;
-        slots = of_rule servers 2 words 6 fit refl;
-        slots_there = there.1.1.1.1.1.1.0 refl;
-        batch = of_rule servers 2 words 7 fit refl;
+        from_text = of_rule kind 2 words 5 fit refl;
+        from_there = there.1.1.1.1.1.0 refl;
+        to_text = of_rule kind 2 words 6 fit refl;
+        to_there = there.1.1.1.1.1.1.0 refl;
+        slots = of_rule kind 2 words 7 fit refl;
+        slots_there = there.1.1.1.1.1.1.1.0 refl;
+        batch = of_rule kind 2 words 8 fit refl;
       }
 
   pub rebalance_found : IsTaken 3 → AreRebalanceRows (rows 3)
   rebalance_found e =
-      let fit = rows_fit (leaf servers 3) [] words false [] (rebalance_own servers) e in
-      let there = required_are_there (leaf servers 3) words refl e in
+      let fit = rows_fit (leaf kind 3) [] words false [] (rebalance_own kind) e in
+      let there = required_are_there (leaf kind 3) words refl e in
       record {
         start = record {
-          even = of_rule servers 3 words 1 fit refl;
-          nodes = of_rule servers 3 words 0 fit refl;
-          cluster = of_rule servers 3 words 2 fit refl;
-          there = either servers (rows 3) there.0 there.1.1.0;
+          even = of_rule kind 3 words 1 fit refl;
+          nodes = of_rule kind 3 words 0 fit refl;
+          cluster = of_rule kind 3 words 2 fit refl;
+          survey = of_rule kind 3 words 4 fit refl;
+          there = one_of_three kind (rows 3) there.0 there.1.1.0 there.1.1.1.1.0;
         };
-        threshold = of_rule servers 3 words 5 fit refl;
-        use_empty = of_rule servers 3 words 6 fit refl;
-        batch = of_rule servers 3 words 7 fit refl;
+        threshold = of_rule kind 3 words 6 fit refl;
+        use_empty = of_rule kind 3 words 7 fit refl;
+        batch = of_rule kind 3 words 8 fit refl;
       }
 
   pub serve_found : IsTaken 4 → AreServeRows (rows 4)
   serve_found e =
-      let fit = rows_fit (leaf servers 4) [] words false [] (serve_own servers) e in
-      let there = required_are_there (leaf servers 4) words refl e in
+      let fit = rows_fit (leaf kind 4) [] words false [] (serve_own kind) e in
+      let there = required_are_there (leaf kind 4) words refl e in
       record {
         sizes = record {
-          even = of_rule servers 4 words 1 fit refl;
-          nodes = of_rule servers 4 words 0 fit refl;
+          even = of_rule kind 4 words 1 fit refl;
+          nodes = of_rule kind 4 words 0 fit refl;
           there =
               there.0 refl;
         };
-        no_cluster = no_text servers 4 words (codes "cluster") fit refl;
-        no_expect = no_text servers 4 words (codes "expect") fit refl;
-        base_port = of_rule servers 4 words 2 fit refl;
-        workers = of_rule servers 4 words 3 fit refl;
-        connections = of_rule servers 4 words 4 fit refl;
-        plan = of_rule servers 4 words 5 fit refl;
-        answers_clients = of_rule servers 4 words 6 fit refl;
+        no_cluster = no_text kind 4 words (codes "cluster") fit refl;
+        no_expect = no_text kind 4 words (codes "expect") fit refl;
+        no_survey = no_text kind 4 words (codes "survey") fit refl;
+        base_port = of_rule kind 4 words 2 fit refl;
+        workers = of_rule kind 4 words 3 fit refl;
+        connections = of_rule kind 4 words 4 fit refl;
+        plan = of_rule kind 4 words 5 fit refl;
+        answers_clients = of_rule kind 4 words 6 fit refl;
       }
 
   pub survey_found : IsTaken 5 → AreSurveyRows (rows 5)
   survey_found e =
-      let fit = rows_fit (leaf servers 5) [] words false [] (survey_own servers) e in
-      let there = required_are_there (leaf servers 5) words refl e in
+      let fit = rows_fit (leaf kind 5) [] words false [] (survey_own kind) e in
+      let there = required_are_there (leaf kind 5) words refl e in
       record {
         cluster = record {
-          text = of_rule servers 5 words 0 fit refl;
+          text = of_rule kind 5 words 0 fit refl;
           there = there.0 refl;
           sizes =
-              no_sizes servers 5 words fit refl refl;
+              no_sizes kind 5 words fit refl refl;
         };
-        slots = of_rule servers 5 words 2 fit refl;
-        keys = of_rule servers 5 words 3 fit refl;
-        stranded = of_rule servers 5 words 4 fit refl;
+        slots = of_rule kind 5 words 2 fit refl;
+        keys = of_rule kind 5 words 3 fit refl;
+        stranded = of_rule kind 5 words 4 fit refl;
+        full = of_rule kind 5 words 5 fit refl;
       }
 
   pub apply_found : IsTaken 6 → AreApplyRows (rows 6)
   apply_found e =
-      let fit = rows_fit (leaf servers 6) [] words false [] (apply_own servers) e in
-      let there = required_are_there (leaf servers 6) words refl e in
+      let fit = rows_fit (leaf kind 6) [] words false [] (apply_own kind) e in
+      let there = required_are_there (leaf kind 6) words refl e in
       record {
         cluster = record {
-          text = of_rule servers 6 words 0 fit refl;
+          text = of_rule kind 6 words 0 fit refl;
           there = there.0 refl;
           sizes =
-              no_sizes servers 6 words fit refl refl;
+              no_sizes kind 6 words fit refl refl;
         };
-        timeout = of_rule servers 6 words 2 fit refl;
-        keys = of_rule servers 6 words 3 fit refl;
-        wait_for_news = of_rule servers 6 words 6 fit refl;
+        timeout = of_rule kind 6 words 2 fit refl;
+        keys = of_rule kind 6 words 3 fit refl;
+        append = of_rule kind 6 words 5 fit refl;
+        overwrite = of_rule kind 6 words 6 fit refl;
+        wait_for_news = of_rule kind 6 words 8 fit refl;
       }
 
   pub resume_found : IsTaken 7 → AreResumeRows (rows 7)
   resume_found e =
-      let fit = rows_fit (leaf servers 7) [] words false [] (resume_own servers) e in
-      let there = required_are_there (leaf servers 7) words refl e in
+      let fit = rows_fit (leaf kind 7) [] words false [] (resume_own kind) e in
+      let there = required_are_there (leaf kind 7) words refl e in
       record {
         run = record {
           cluster = record {
-            text = of_rule servers 7 words 0 fit refl;
+            text = of_rule kind 7 words 0 fit refl;
             there = there.0 refl;
             sizes =
-                no_sizes servers 7 words fit refl refl;
+                no_sizes kind 7 words fit refl refl;
           };
-          timeout = of_rule servers 7 words 2 fit refl;
-          keys = of_rule servers 7 words 3 fit refl;
-          wait_for_news = of_rule servers 7 words 6 fit refl;
+          timeout = of_rule kind 7 words 2 fit refl;
+          keys = of_rule kind 7 words 3 fit refl;
+          append = no_value kind 7 words (codes "append") vp.Bool fit refl;
+          overwrite = no_value kind 7 words (codes "overwrite") vp.Bool fit refl;
+          wait_for_news = of_rule kind 7 words 6 fit refl;
         };
-        batch = of_rule servers 7 words 8 fit refl;
+        batch = of_rule kind 7 words 8 fit refl;
       }
 
   pub explain_found : IsTaken 8 → AreExplainRows (rows 8)
   explain_found e =
-      let fit = rows_fit (leaf servers 8) [] words false [] (explain_own servers) e in
-      let there = required_are_there (leaf servers 8) words refl e in
+      let fit = rows_fit (leaf kind 8) [] words false [] (explain_own kind) e in
+      let there = required_are_there (leaf kind 8) words refl e in
       record {
         start = record {
-          even = of_rule servers 8 words 1 fit refl;
-          nodes = of_rule servers 8 words 0 fit refl;
-          cluster = of_rule servers 8 words 2 fit refl;
-          there = either servers (rows 8) there.0 there.1.1.0;
+          even = of_rule kind 8 words 1 fit refl;
+          nodes = of_rule kind 8 words 0 fit refl;
+          cluster = of_rule kind 8 words 2 fit refl;
+          survey = of_rule kind 8 words 4 fit refl;
+          there = one_of_three kind (rows 8) there.0 there.1.1.0 there.1.1.1.1.0;
         };
-        json = of_rule servers 8 words 4 fit refl;
+        json = of_rule kind 8 words 5 fit refl;
       }
 
   pub draw_found : IsTaken 9 → AreDrawRows (rows 9)
   draw_found e =
-      let fit = rows_fit (leaf servers 9) [] words false [] (draw_own servers) e in
-      let there = required_are_there (leaf servers 9) words refl e in
+      let fit = rows_fit (leaf kind 9) [] words false [] (draw_own kind) e in
+      let there = required_are_there (leaf kind 9) words refl e in
       record {
         start = record {
-          even = of_rule servers 9 words 1 fit refl;
-          nodes = of_rule servers 9 words 0 fit refl;
-          cluster = of_rule servers 9 words 2 fit refl;
-          there = either servers (rows 9) there.0 there.1.1.0;
+          even = of_rule kind 9 words 1 fit refl;
+          nodes = of_rule kind 9 words 0 fit refl;
+          cluster = of_rule kind 9 words 2 fit refl;
+          survey = of_rule kind 9 words 4 fit refl;
+          there = one_of_three kind (rows 9) there.0 there.1.1.0 there.1.1.1.1.0;
         };
-        now = of_rule servers 9 words 4 fit refl;
+        now = of_rule kind 9 words 5 fit refl;
       }
 
   pub drain_found : IsTaken 10 → AreDrainRows (rows 10)
   drain_found e =
-      let fit = rows_fit (leaf servers 10) [] words false [] (drain_own servers) e in
-      let there = required_are_there (leaf servers 10) words refl e in
+      let fit = rows_fit (leaf kind 10) [] words false [] (drain_own kind) e in
+      let there = required_are_there (leaf kind 10) words refl e in
       record {
         start = record {
-          even = of_rule servers 10 words 1 fit refl;
-          nodes = of_rule servers 10 words 0 fit refl;
-          cluster = of_rule servers 10 words 2 fit refl;
-          there = either servers (rows 10) there.0 there.1.1.0;
+          even = of_rule kind 10 words 1 fit refl;
+          nodes = of_rule kind 10 words 0 fit refl;
+          cluster = of_rule kind 10 words 2 fit refl;
+          survey = of_rule kind 10 words 4 fit refl;
+          there = one_of_three kind (rows 10) there.0 there.1.1.0 there.1.1.1.1.0;
         };
-        from_text = of_rule servers 10 words 4 fit refl;
-        from_there = there.1.1.1.1.0 refl;
-        batch = of_rule servers 10 words 6 fit refl;
+        from_text = of_rule kind 10 words 5 fit refl;
+        from_there = there.1.1.1.1.1.0 refl;
+        batch = of_rule kind 10 words 7 fit refl;
       }
 
   pub forget_found : IsTaken 11 → AreForgetRows (rows 11)
   forget_found e =
-      let fit = rows_fit (leaf servers 11) [] words false [] (forget_own servers) e in
-      let there = required_are_there (leaf servers 11) words refl e in
+      let fit = rows_fit (leaf kind 11) [] words false [] (forget_own kind) e in
+      let there = required_are_there (leaf kind 11) words refl e in
       record {
-        node = of_rule servers 11 words 0 fit refl;
+        node = of_rule kind 11 words 0 fit refl;
         there = there.0 refl;
         cluster = record {
-          text = of_rule servers 11 words 1 fit refl;
+          text = of_rule kind 11 words 1 fit refl;
           there = there.1.0 refl;
           sizes =
-              no_sizes servers 11 words fit refl refl;
+              no_sizes kind 11 words fit refl refl;
         };
       }
 

@@ -1,5 +1,6 @@
 -- The options of the commands that ask the servers of a cluster, and what is found for them in the words.
-use Rattle.std.specs.Prelude.{◌≡◌, ◌≤◌, ◌||◌, Bool, List, Option, Some, IfSome, codes, false, is_some, length, true}
+use Rattle.std.specs.Prelude.{◌≡◌, ◌≤◌, ◌||◌, ◌&&◌, Bool, List, Option, Some, IfSome, IsSome, codes, cond, false, is_some}
+use Rattle.std.specs.Prelude.{length, true}
 use Rattle.std.specs.Prelude.{option_map, pos, string_bytes, unwrap_or}
 use Rattle.std.specs.List.{All}
 use Rattle.std.specs.Net.Socket.{v4_port}
@@ -9,6 +10,8 @@ use Rattle.clap.specs.declared.builder.value_parser.ValueParser.{ValueParser}
 use Rattle.clap.specs.declared.builder.value_parser.ValueParser.TheVariants as vp
 use Rattle.command_words.specs.declared.usage.ApplyWords.{ApplyWords}
 use Rattle.command_words.specs.declared.usage.ClusterWords.{ClusterWords}
+use Rattle.command_words.specs.declared.usage.LogStart.{LogStart}
+use Rattle.command_words.specs.declared.usage.LogStart.TheVariants.{Append, New, Overwrite}
 use Rattle.command_words.specs.Addresses.{AreAddresses}
 use Rattle.command_words.specs.Ids.{are_ids_if_given}
 use Rattle.command_words.specs.Options.{IsGiven, MayGive, flag_of, number_of, parsed_option, text_option}
@@ -36,6 +39,12 @@ keys_option = parsed_option (codes "keys-per-second") keys_parser
 
 abbrev pub log_option : Rule
 log_option = text_option (codes "log")
+
+abbrev pub append_flag : Rule
+append_flag = record (new_rule (codes "append")) { long = Some (codes "append"); action = Some SetTrue }
+
+abbrev pub overwrite_flag : Rule
+overwrite_flag = record (new_rule (codes "overwrite")) { long = Some (codes "overwrite"); action = Some SetTrue }
 
 abbrev pub stop_file_option : Rule
 stop_file_option = text_option (codes "stop-file")
@@ -71,12 +80,25 @@ pub record HasCluster (rows : List Row) (g : ClusterWords) : Type 0 where
   pub addresses : AreAddresses text g.addresses.items
   pub expect : expect_of rows ≡ option_map string_bytes g.expect
 
+-- how the log begins
+abbrev pub log_start_of : List Row → LogStart
+log_start_of rows =
+    cond (flag_of (codes "append") rows) Append (cond (flag_of (codes "overwrite") rows) Overwrite New)
+
+-- a log is given where it is said how it begins, and that is said once
+pub record IsLogged (rows : List Row) : Type 0 where
+  pub once : (flag_of (codes "append") rows && flag_of (codes "overwrite") rows) ≡ false
+  pub there : (flag_of (codes "append") rows || flag_of (codes "overwrite") rows) ≡ true
+      → IsSome (first_of (codes "log") rows)
+
 -- a minute for a MIGRATE, unless something else is given
 pub record HasApply (rows : List Row) (g : ApplyWords) : Type 0 where
   pub cluster : HasCluster rows g.cluster
   pub timeout : g.timeout ≡ unwrap_or (number_of (codes "timeout") rows) 60000
   pub keys : g.keys_per_second ≡ number_of (codes "keys-per-second") rows
   pub log : first_of (codes "log") rows ≡ option_map string_bytes g.log
+  pub log_start : g.log_start ≡ log_start_of rows
+  pub logged : IsLogged rows
   pub stop_file : first_of (codes "stop-file") rows ≡ option_map string_bytes g.stop_file
   pub wait_for_news : g.wait_for_news ≡ flag_of (codes "wait-for-news") rows
   pub dead_for_good : first_of (codes "dead-for-good") rows ≡ option_map string_bytes g.dead_for_good
@@ -104,4 +126,6 @@ pub record AreApplyRows (rows : List Row) : Type 0 where
   pub cluster : AreClusterRows rows
   pub timeout : MayGive (codes "timeout") timeout_parser rows
   pub keys : MayGive (codes "keys-per-second") keys_parser rows
+  pub append : MayGive (codes "append") vp.Bool rows
+  pub overwrite : MayGive (codes "overwrite") vp.Bool rows
   pub wait_for_news : MayGive (codes "wait-for-news") vp.Bool rows

@@ -1,6 +1,6 @@
 -- What the words of a command line ask for. The program's name is none of them.
 use Rattle.std.specs.Prelude.{◌≡◌, ◌≢◌, ◌⊎◌, ◌≤◌, ◌||◌, ℕ, Bool, List, [], ◌∷◌, ◌++◌, String, Option, Some, true}
-use Rattle.std.specs.Prelude.{codes, map, not, option_map, string_bytes, take}
+use Rattle.std.specs.Prelude.{codes, cond, map, option_map, string_bytes, take}
 use Rattle.std.specs.List.{list_any}
 use Rattle.std.specs.Str.{bytes_eq}
 use Rattle.clap.specs.Words.{App, IsAmong, Kinds, Row, Shape, Text, fault_of, new_app, subcommand_of, with_subcommand}
@@ -23,10 +23,11 @@ use Rattle.command_words.specs.declared.usage.ResumeWords.{ResumeWords}
 use Rattle.command_words.specs.declared.usage.ServeWords.{ServeWords}
 use Rattle.command_words.specs.declared.usage.Start.{Start}
 use Rattle.command_words.specs.declared.usage.SurveyWords.{SurveyWords}
-use Rattle.command_words.specs.Surveying.{HasSurvey, keys_flag, slots_flag, stranded_flag}
+use Rattle.command_words.specs.Surveying.{HasSurvey, full_flag, keys_flag, slots_flag, stranded_flag}
 use Rattle.command_words.specs.Clusters.{HasApply, IsAddressed, IsApply, cluster_option, expect_option}
 use Rattle.command_words.specs.Clusters.{keys_option, log_option, stop_file_option, timeout_option}
-use Rattle.command_words.specs.Clusters.{dead_for_good_option, plan_option, wait_for_news_flag}
+use Rattle.command_words.specs.Clusters.{append_flag, dead_for_good_option, overwrite_flag, plan_option}
+use Rattle.command_words.specs.Clusters.{wait_for_news_flag}
 use Rattle.command_words.specs.Faults.{IsAtFault, fault_text}
 use Rattle.command_words.specs.Forgetting.{HasForget, node_argument}
 use Rattle.command_words.specs.Options.{even_option, nodes_option}
@@ -39,7 +40,10 @@ use Rattle.command_words.specs.Serving.{HasServe, answers_clients_flag, base_por
 use Rattle.command_words.specs.Serving.{plan_flag, workers_option}
 use Rattle.command_words.specs.Showing.{HasDraw, HasDrawNow, HasExplain, json_flag, now_flag}
 use Rattle.command_words.specs.SlotCounts.{IsSlotCount}
-use Rattle.command_words.specs.Starts.{HasStart, IsStart}
+use Rattle.command_words.specs.StartKinds.{is_cluster, is_even, is_survey}
+use Rattle.command_words.specs.Starts.{HasStart, IsStart, survey_option}
+use Rattle.command_words.specs.declared.start_kind.StartKind.{StartKind}
+use Rattle.command_words.specs.declared.start_kind.StartKind.TheVariants.{Cluster, Even, Survey as BySurvey}
 
 abbrev pub Words : Type 0
 Words = List (List ℕ)
@@ -47,7 +51,7 @@ Words = List (List ℕ)
 abbrev pub texts : {Z : Type 0} → List (String Z) → Words
 texts = map string_bytes
 
--- ---- the commands, in the form for an even split or in that for a cluster of servers
+-- ---- the commands, in the form for an even split, for a cluster of servers, or for the file of a survey
 
 -- one of the words is `--cluster`, or begins with `--cluster=`
 abbrev pub is_cluster_word : List ℕ → Bool
@@ -56,20 +60,34 @@ is_cluster_word word = bytes_eq word (codes "--cluster") || bytes_eq (take 10 wo
 abbrev pub names_cluster : Words → Bool
 names_cluster = list_any is_cluster_word
 
-abbrev pub verify : (servers : Bool) → Shape
-verify servers = record (new_shape (codes "verify")) {
-  rules = nodes_option (not servers) ∷ even_option ∷ cluster_option servers ∷ expect_option ∷ [];
+-- one of the words is `--survey`, or begins with `--survey=`
+abbrev pub is_survey_word : List ℕ → Bool
+is_survey_word word = bytes_eq word (codes "--survey") || bytes_eq (take 9 word) (codes "--survey=")
+
+abbrev pub names_survey : Words → Bool
+names_survey = list_any is_survey_word
+
+-- the form that the words have
+abbrev pub start_kind : Words → StartKind
+start_kind words = cond (names_cluster words) Cluster (cond (names_survey words) BySurvey Even)
+
+abbrev pub verify : (kind : StartKind) → Shape
+verify kind = record (new_shape (codes "verify")) {
+  rules = nodes_option (is_even kind) ∷ even_option ∷ cluster_option (is_cluster kind) ∷ expect_option
+      ∷ survey_option (is_survey kind) ∷ [];
 }
 
-abbrev pub plan_reshard : (servers : Bool) → Shape
-plan_reshard servers = record (new_shape (codes "plan-reshard")) {
-  rules = nodes_option (not servers) ∷ even_option ∷ cluster_option servers ∷ expect_option
+abbrev pub plan_reshard : (kind : StartKind) → Shape
+plan_reshard kind = record (new_shape (codes "plan-reshard")) {
+  rules = nodes_option (is_even kind) ∷ even_option ∷ cluster_option (is_cluster kind) ∷ expect_option
+      ∷ survey_option (is_survey kind)
       ∷ from_option ∷ to_option ∷ slots_option ∷ batch_option ∷ [];
 }
 
-abbrev pub plan_rebalance : (servers : Bool) → Shape
-plan_rebalance servers = record (new_shape (codes "plan-rebalance")) {
-  rules = nodes_option (not servers) ∷ even_option ∷ cluster_option servers ∷ expect_option
+abbrev pub plan_rebalance : (kind : StartKind) → Shape
+plan_rebalance kind = record (new_shape (codes "plan-rebalance")) {
+  rules = nodes_option (is_even kind) ∷ even_option ∷ cluster_option (is_cluster kind) ∷ expect_option
+      ∷ survey_option (is_survey kind)
       ∷ weights_option ∷ threshold_option ∷ use_empty_flag ∷ batch_option ∷ [];
 }
 
@@ -81,13 +99,13 @@ serve = record (new_shape (codes "serve")) {
 
 abbrev pub survey : Shape
 survey = record (new_shape (codes "survey")) {
-  rules = cluster_option true ∷ expect_option ∷ slots_flag ∷ keys_flag ∷ stranded_flag ∷ [];
+  rules = cluster_option true ∷ expect_option ∷ slots_flag ∷ keys_flag ∷ stranded_flag ∷ full_flag ∷ [];
 }
 
 abbrev pub apply : Shape
 apply = record (new_shape (codes "apply")) {
-  rules = cluster_option true ∷ expect_option ∷ timeout_option ∷ keys_option ∷ log_option ∷ stop_file_option
-      ∷ wait_for_news_flag ∷ dead_for_good_option ∷ plan_option ∷ [];
+  rules = cluster_option true ∷ expect_option ∷ timeout_option ∷ keys_option ∷ log_option ∷ append_flag
+      ∷ overwrite_flag ∷ stop_file_option ∷ wait_for_news_flag ∷ dead_for_good_option ∷ plan_option ∷ [];
 }
 
 abbrev pub resume : Shape
@@ -96,19 +114,22 @@ resume = record (new_shape (codes "resume")) {
       ∷ wait_for_news_flag ∷ dead_for_good_option ∷ by_option ∷ plan_option ∷ [];
 }
 
-abbrev pub explain : (servers : Bool) → Shape
-explain servers = record (new_shape (codes "explain")) {
-  rules = nodes_option (not servers) ∷ even_option ∷ cluster_option servers ∷ expect_option ∷ json_flag ∷ [];
+abbrev pub explain : (kind : StartKind) → Shape
+explain kind = record (new_shape (codes "explain")) {
+  rules = nodes_option (is_even kind) ∷ even_option ∷ cluster_option (is_cluster kind) ∷ expect_option
+      ∷ survey_option (is_survey kind) ∷ json_flag ∷ [];
 }
 
-abbrev pub draw : (servers : Bool) → Shape
-draw servers = record (new_shape (codes "draw")) {
-  rules = nodes_option (not servers) ∷ even_option ∷ cluster_option servers ∷ expect_option ∷ now_flag ∷ [];
+abbrev pub draw : (kind : StartKind) → Shape
+draw kind = record (new_shape (codes "draw")) {
+  rules = nodes_option (is_even kind) ∷ even_option ∷ cluster_option (is_cluster kind) ∷ expect_option
+      ∷ survey_option (is_survey kind) ∷ now_flag ∷ [];
 }
 
-abbrev pub plan_drain : (servers : Bool) → Shape
-plan_drain servers = record (new_shape (codes "plan-drain")) {
-  rules = nodes_option (not servers) ∷ even_option ∷ cluster_option servers ∷ expect_option
+abbrev pub plan_drain : (kind : StartKind) → Shape
+plan_drain kind = record (new_shape (codes "plan-drain")) {
+  rules = nodes_option (is_even kind) ∷ even_option ∷ cluster_option (is_cluster kind) ∷ expect_option
+      ∷ survey_option (is_survey kind)
       ∷ from_option ∷ some_to_option ∷ batch_option ∷ [];
 }
 
@@ -124,8 +145,8 @@ top = on_top (λ s. record s {
   arg_required_else_help = true;
 }) (new_app (codes "reshard"))
 
-abbrev pub reshard : (servers : Bool) → App
-reshard servers =
+abbrev pub reshard : (kind : StartKind) → App
+reshard kind =
     with_subcommand
     (with_subcommand
     (with_subcommand
@@ -136,25 +157,25 @@ reshard servers =
     (with_subcommand
     (with_subcommand
     (with_subcommand
-    (with_subcommand (with_subcommand top (new_shape (codes "rehearse"))) (verify servers))
-    (plan_reshard servers))
-    (plan_rebalance servers))
+    (with_subcommand (with_subcommand top (new_shape (codes "rehearse"))) (verify kind))
+    (plan_reshard kind))
+    (plan_rebalance kind))
     serve)
     survey)
     apply)
     resume)
-    (explain servers))
-    (draw servers))
-    (plan_drain servers))
+    (explain kind))
+    (draw kind))
+    (plan_drain kind))
     forget
 
 -- what the parser may find at fault with the words
 abbrev pub faults : Words → Kinds
-faults words = fault_of (reshard (names_cluster words)) (codes "reshard" ∷ words)
+faults words = fault_of (reshard (start_kind words)) (codes "reshard" ∷ words)
 
 -- the subcommand that the words name, and what was found for its options
 abbrev pub command_in : Words → Option (Text × List Row)
-command_in words = subcommand_of (reshard (names_cluster words)) (codes "reshard" ∷ words)
+command_in words = subcommand_of (reshard (start_kind words)) (codes "reshard" ∷ words)
 
 -- a rehearsal is asked for: by the one word `rehearse`, after which `--` may end the flags
 abbrev pub IsRehearsal : Words → Type 0

@@ -1,6 +1,7 @@
 pub mod Addresses
 pub mod Clusters
 pub mod CommandLine
+pub mod Environment
 pub mod Faults
 pub mod Forgetting
 pub mod Ids
@@ -10,5 +11,6 @@ pub mod Resuming
 pub mod Serving
 pub mod Showing
 pub mod SlotCounts
+pub mod StartKinds
 pub mod Starts
 pub mod Surveying

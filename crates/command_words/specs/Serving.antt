@@ -8,7 +8,7 @@ use Rattle.command_words.specs.declared.usage.ServeWords.{ServeWords}
 use Rattle.command_words.specs.Clusters.{cluster_of, expect_of}
 use Rattle.command_words.specs.Options.{AreSizes, MayGive, number_of, parsed_option}
 use Rattle.command_words.specs.Planning.{flag_of}
-use Rattle.command_words.specs.Starts.{HasEven}
+use Rattle.command_words.specs.Starts.{HasEven, survey_of}
 
 -- eight nodes have ports from the highest one on
 abbrev pub port_parser : ValueParser
@@ -56,6 +56,7 @@ pub record AreServeRows (rows : List Row) : Type 0 where
   pub sizes : AreSizes rows
   pub no_cluster : cluster_of rows ≡ None
   pub no_expect : expect_of rows ≡ None
+  pub no_survey : survey_of rows ≡ None
   pub base_port : MayGive (codes "base-port") port_parser rows
   pub workers : MayGive (codes "workers") workers_parser rows
   pub connections : MayGive (codes "connections") connections_parser rows

@@ -17,13 +17,17 @@ keys_flag = record (new_rule (codes "keys")) { long = Some (codes "keys"); actio
 abbrev pub stranded_flag : Rule
 stranded_flag = record (new_rule (codes "stranded")) { long = Some (codes "stranded"); action = Some SetTrue }
 
--- The ranges of slots and the numbers of keys are printed, and keys that no client reaches are looked for, each where
+abbrev pub full_flag : Rule
+full_flag = record (new_rule (codes "full")) { long = Some (codes "full"); action = Some SetTrue }
+
+-- All that a plan can start from, the ranges of slots and the numbers of keys are printed, and keys that no client reaches are looked for, each where
 -- its flag is there.
 pub record HasSurvey (rows : List Row) (g : SurveyWords) : Type 0 where
   pub cluster : HasCluster rows g.cluster
   pub slots : g.slots ≡ flag_of (codes "slots") rows
   pub keys : g.keys ≡ flag_of (codes "keys") rows
   pub stranded : g.stranded ≡ flag_of (codes "stranded") rows
+  pub full : g.full ≡ flag_of (codes "full") rows
 
 -- what is found for the options of words that are taken
 pub record AreSurveyRows (rows : List Row) : Type 0 where
@@ -31,3 +35,4 @@ pub record AreSurveyRows (rows : List Row) : Type 0 where
   pub slots : MayGive (codes "slots") vp.Bool rows
   pub keys : MayGive (codes "keys") vp.Bool rows
   pub stranded : MayGive (codes "stranded") vp.Bool rows
+  pub full : MayGive (codes "full") vp.Bool rows

@@ -1,18 +1,21 @@
-ghost use Rattle.std.specs.Prelude.{◌≡◌, ◌≤◌, IfOk, IfSome, MatchResult, codes, false, pos, unwrap_or};
-ghost use Rattle.clap.specs.Words.{found_of, rows_of, rule_of};
+ghost use Rattle.std.specs.Prelude.{◌≡◌, ◌≤◌, IfOk, IfSome, MatchResult, codes, false, is_some, pos, unwrap_or};
+ghost use Rattle.clap.specs.Words.{first_of, found_of, rows_of, rule_of};
 ghost use Rattle.clap.specs.declared.builder.value_parser.ValueParser.TheVariants as vp;
 ghost use Rattle.command_words.specs.Clusters.{AreApplyRows, AreClusterRows, HasApply, HasCluster, IsAddressed};
 ghost use Rattle.command_words.specs.Clusters.{IsApply, cluster_option, expect_option, keys_option, keys_parser};
 ghost use Rattle.command_words.specs.Clusters.{log_option, stop_file_option, timeout_option, timeout_parser};
-ghost use Rattle.command_words.specs.Clusters.{dead_for_good_option, plan_option, wait_for_news_flag};
+ghost use Rattle.command_words.specs.Clusters.{IsLogged, append_flag, dead_for_good_option, log_start_of, overwrite_flag};
+ghost use Rattle.command_words.specs.Clusters.{plan_option, wait_for_news_flag};
 ghost use Rattle.command_words.specs.Faults.{IsAtFault};
 ghost use Rattle.command_words.specs.Options.{MayGive, number_of};
 
 use crate::addresses::addresses_in;
-use crate::arguments::{flag, flag_in, parsed_option, some_text_in, text_in, text_option};
+use crate::arguments::{
+    flag, flag_in, has_text, parsed_option, some_text_in, text_in, text_option,
+};
 use crate::faults::OptionFault;
 use crate::ids::are_ids_if_given;
-use crate::usage::{ApplyWords, ClusterWords};
+use crate::usage::{ApplyWords, ClusterWords, LogStart};
 use clap::builder::ValueParser;
 use clap::{Arg, ArgMatches, value_parser};
 use std::alloc::{AllocError, Global};
@@ -70,6 +73,10 @@ fn run_words(
     let timeout = timeout_in(given);
     let keys_per_second = keys_given(given);
     let log = some_text_in(alloc, given, "log")?;
+    let log_start = match log_start_in(given) {
+        Ok(start) => start,
+        Err(fault) => return Ok(Err(fault)),
+    };
     let stop_file = some_text_in(alloc, given, "stop-file")?;
     let wait_for_news = flag_in(given, "wait-for-news");
     let dead_for_good = some_text_in(alloc, given, "dead-for-good")?;
@@ -82,6 +89,7 @@ fn run_words(
         timeout,
         keys_per_second,
         log,
+        log_start,
         stop_file,
         wait_for_news,
         dead_for_good,
@@ -151,6 +159,30 @@ pub fn log_option<'a>(alloc: Global) -> Arg<'a>
     )
 }
 
+/// Whether the log is written after what its file holds.
+pub fn append_flag<'a>(alloc: Global) -> Arg<'a>
+    ensures rule { rule_of result ≡ append_flag }
+    ensures local { result.global ≡ false }
+{
+    flag(
+        alloc,
+        "append",
+        "The log may be a file that holds something, and is written after that",
+    )
+}
+
+/// Whether the log is written in place of what its file holds.
+pub fn overwrite_flag<'a>(alloc: Global) -> Arg<'a>
+    ensures rule { rule_of result ≡ overwrite_flag }
+    ensures local { result.global ≡ false }
+{
+    flag(
+        alloc,
+        "overwrite",
+        "The log may be a file that holds something, which is lost",
+    )
+}
+
 /// The file that stops a plan between two slots.
 pub fn stop_file_option<'a>(alloc: Global) -> Arg<'a>
     ensures rule { rule_of result ≡ stop_file_option }
@@ -207,6 +239,31 @@ fn keys_range<'a>() -> ValueParser<'a>
     ensures { result ≡ vp.Signed (pos 1) (pos 1000000000) }
 {
     value_parser!(u32).range(1..=1_000_000_000)
+}
+
+/// How the log begins, or what is wrong with the flags that say that.
+fn log_start_in(given: &ArgMatches) -> Result<LogStart, OptionFault>
+    requires append { MayGive (codes "append") vp.Bool (rows_of (found_of given.now)) }
+    requires overwrite { MayGive (codes "overwrite") vp.Bool (rows_of (found_of given.now)) }
+    ensures { MatchResult result
+        (λ start. (start ≡ log_start_of (rows_of (found_of given.now))) × IsLogged (rows_of (found_of given.now)))
+        (IsAtFault (rows_of (found_of given.now))) }
+{
+    let (append, overwrite) = (flag_in(given, "append"), flag_in(given, "overwrite"));
+    if append && overwrite {
+        return Err(OptionFault::TwoLogStarts);
+    }
+    if !append && !overwrite {
+        return Ok(LogStart::New);
+    }
+    if !has_text(given, "log") {
+        return Err(OptionFault::NoLog);
+    }
+    if append {
+        Ok(LogStart::Append)
+    } else {
+        Ok(LogStart::Overwrite)
+    }
 }
 
 /// How long a MIGRATE waits.

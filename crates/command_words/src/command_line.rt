@@ -7,7 +7,8 @@ ghost use Rattle.clap.specs.declared.builder.command.Command.TheViews.{out-Comma
 ghost use Rattle.command_words.specs.Clusters.{AreApplyRows};
 ghost use Rattle.command_words.specs.Surveying.{AreSurveyRows};
 ghost use Rattle.command_words.specs.CommandLine.{AsksFor, EndsLine, HasWholeLines, IsCommand, IsFaultLine};
-ghost use Rattle.command_words.specs.CommandLine.{IsRehearsal, ReportsOf, apply, is_cluster_word, names_cluster};
+ghost use Rattle.command_words.specs.CommandLine.{IsRehearsal, ReportsOf, apply, is_cluster_word, is_survey_word};
+ghost use Rattle.command_words.specs.CommandLine.{names_cluster, names_survey, start_kind};
 ghost use Rattle.command_words.specs.CommandLine.{draw, explain, forget, plan_drain, plan_rebalance, plan_reshard};
 ghost use Rattle.command_words.specs.CommandLine.{reshard, resume, serve, survey, texts, top, verify};
 ghost use Rattle.command_words.specs.Forgetting.{AreForgetRows};
@@ -19,8 +20,9 @@ ghost use Rattle.command_words.specs.Starts.{AreStartRows, HasStart, IsStart};
 
 use crate::arguments::flag_in;
 use crate::clusters::{
-    apply_words, cluster_option, cluster_words, dead_for_good_option, expect_option, keys_option,
-    log_option, plan_option, stop_file_option, timeout_option, wait_for_news_flag,
+    append_flag, apply_words, cluster_option, cluster_words, dead_for_good_option, expect_option,
+    keys_option, log_option, overwrite_flag, plan_option, stop_file_option, timeout_option,
+    wait_for_news_flag,
 };
 use crate::faults::{OptionFault, fault_line};
 use crate::forgetting::{forget_words, node_argument};
@@ -35,8 +37,9 @@ use crate::serving::{
 };
 use crate::showing::{json_flag, now_flag};
 use crate::sizes::{even_option, nodes_option};
-use crate::starts::start_of;
-use crate::surveying::{keys_flag, slots_flag, stranded_flag, survey_words};
+use crate::start_kind::StartKind;
+use crate::starts::{start_of, survey_option};
+use crate::surveying::{full_flag, keys_flag, slots_flag, stranded_flag, survey_words};
 use crate::texts::{
     APPLY_EXAMPLE, CLUSTER_HELP, DRAIN_EXAMPLE, DRAW_EXAMPLE, EXPLAIN_EXAMPLE, FORGET_EXAMPLE,
     PLAN_HELP, PLAN_LINES, REBALANCE_EXAMPLE, RESHARD_EXAMPLE, RESUME_EXAMPLE, RESUMED_PLAN_HELP,
@@ -54,8 +57,8 @@ pub fn parse(alloc: Global, words: &[String]) -> Result<Usage, AllocError>
     ensures rehearses { IsRehearsal (texts words.now) → IfOk result (λ usage. usage ≡ Usage.Rehearse) }
 {
     let given = given(alloc, words)?;
-    let servers = names_cluster(words);
-    match command(alloc, servers)?.try_get_matches_from(given.as_slice()) {
+    let kind = start_kind(words);
+    match command(alloc, kind)?.try_get_matches_from(given.as_slice()) {
         // Each is dropped by name: a proof sees one call, where it would take the value apart at the end of the arm.
         Ok(matches) => {
             let usage = command_of(alloc, &matches);
@@ -306,6 +309,7 @@ fn drawing_from(alloc: Global, given: &ArgMatches, start: Start) -> Result<Usage
     match start {
         Start::Cluster(cluster) => Ok(Usage::DrawNow(cluster)),
         Start::Even(_) => wrong(alloc, OptionFault::NowAlone),
+        Start::Survey(_) => wrong(alloc, OptionFault::NowAlone),
     }
 }
 
@@ -314,6 +318,19 @@ fn wrong(alloc: Global, fault: OptionFault) -> Result<Usage, AllocError>
     ensures { IfOk result (IsFaultLine fault) }
 {
     Ok(Usage::Wrong(fault_line(alloc, fault)?))
+}
+
+/// Which options of the words say where a plan starts.
+fn start_kind(words: &[String]) -> StartKind
+    ensures { result ≡ start_kind (texts words.now) }
+{
+    if names_cluster(words) {
+        StartKind::Cluster
+    } else if names_survey(words) {
+        StartKind::Survey
+    } else {
+        StartKind::Even
+    }
 }
 
 /// Whether the words name servers of a cluster.
@@ -328,8 +345,27 @@ fn names_cluster(words: &[String]) -> bool
     false
 }
 
-/// The option by itself, or with its value in the same word.
-fn is_cluster_word(word: &[u8]) -> bool
+/// Whether the words name the file of a survey.
+fn names_survey(words: &[String]) -> bool
+    ensures { result ≡ names_survey (texts words.now) }
+{
+    for word in words {
+        if is_survey_word(word.as_bytes()) {
+            return true;
+        }
+    }
+    false
+}
+
+/// `--survey` by itself, or with its value in the same word.
+pub(crate) fn is_survey_word(word: &[u8]) -> bool
+    ensures { result ≡ is_survey_word word.now }
+{
+    word == b"--survey".as_slice() || word.starts_with(b"--survey=".as_slice())
+}
+
+/// `--cluster` by itself, or with its value in the same word.
+pub(crate) fn is_cluster_word(word: &[u8]) -> bool
     ensures { result ≡ is_cluster_word word.now }
 {
     word == b"--cluster".as_slice() || word.starts_with(b"--cluster=".as_slice())
@@ -347,21 +383,21 @@ fn given<'a>(alloc: Global, words: &'a [String]) -> Result<Vec<&'a str>, AllocEr
     Ok(given)
 }
 
-/// The command line that the program has, where a plan starts from an even split or from a cluster of servers.
-fn command<'a>(alloc: Global, servers: bool) -> Result<Command<'a>, AllocError>
-    ensures { IfOk result (λ command. app_of command ≡ reshard servers) }
+/// The command line that the program has, where a plan starts from what options of this kind say.
+fn command<'a>(alloc: Global, kind: StartKind) -> Result<Command<'a>, AllocError>
+    ensures { IfOk result (λ command. app_of command ≡ reshard kind) }
 {
     let program = top_command(alloc).subcommand(rehearse_command(alloc))?;
-    let program = with_command(program, verify_command(alloc, servers))?;
-    let program = with_command(program, plan_reshard_command(alloc, servers))?;
-    let program = with_command(program, plan_rebalance_command(alloc, servers))?;
+    let program = with_command(program, verify_command(alloc, kind))?;
+    let program = with_command(program, plan_reshard_command(alloc, kind))?;
+    let program = with_command(program, plan_rebalance_command(alloc, kind))?;
     let program = with_command(program, serve_command(alloc))?;
     let program = with_command(program, survey_command(alloc))?;
     let program = with_command(program, apply_command(alloc))?;
     let program = with_command(program, resume_command(alloc))?;
-    let program = with_command(program, explain_command(alloc, servers))?;
-    let program = with_command(program, draw_command(alloc, servers))?;
-    let program = with_command(program, plan_drain_command(alloc, servers))?;
+    let program = with_command(program, explain_command(alloc, kind))?;
+    let program = with_command(program, draw_command(alloc, kind))?;
+    let program = with_command(program, plan_drain_command(alloc, kind))?;
     with_command(program, forget_command(alloc))
 }
 
@@ -400,15 +436,16 @@ fn rehearse_command<'a>(alloc: Global) -> Command<'a>
 }
 
 /// The command that verifies a plan.
-fn verify_command<'a>(alloc: Global, servers: bool) -> Result<Command<'a>, AllocError>
-    ensures shape { IfOk result (λ command. shape_of command ≡ verify servers) }
+fn verify_command<'a>(alloc: Global, kind: StartKind) -> Result<Command<'a>, AllocError>
+    ensures shape { IfOk result (λ command. shape_of command ≡ verify kind) }
     ensures local { IfOk result (λ command. (fields_of command).has_globals ≡ false) }
 {
     let options = vec![in alloc;
-        nodes_option(alloc, !servers),
+        nodes_option(alloc, kind.is_even()),
         even_option(alloc),
-        cluster_option(alloc, servers, START_HELP),
+        cluster_option(alloc, kind.is_cluster(), START_HELP),
         expect_option(alloc),
+        survey_option(alloc, kind.is_survey()),
     ]?;
     let command = Command::new(alloc, "verify")
         .about("Verifies a plan on standard input")
@@ -417,15 +454,16 @@ fn verify_command<'a>(alloc: Global, servers: bool) -> Result<Command<'a>, Alloc
 }
 
 /// The command that plans so many slots to a node.
-fn plan_reshard_command<'a>(alloc: Global, servers: bool) -> Result<Command<'a>, AllocError>
-    ensures shape { IfOk result (λ command. shape_of command ≡ plan_reshard servers) }
+fn plan_reshard_command<'a>(alloc: Global, kind: StartKind) -> Result<Command<'a>, AllocError>
+    ensures shape { IfOk result (λ command. shape_of command ≡ plan_reshard kind) }
     ensures local { IfOk result (λ command. (fields_of command).has_globals ≡ false) }
 {
     let options = vec![in alloc;
-        nodes_option(alloc, !servers),
+        nodes_option(alloc, kind.is_even()),
         even_option(alloc),
-        cluster_option(alloc, servers, START_HELP),
+        cluster_option(alloc, kind.is_cluster(), START_HELP),
         expect_option(alloc),
+        survey_option(alloc, kind.is_survey()),
         from_option(alloc),
         to_option(alloc),
         slots_option(alloc),
@@ -438,15 +476,16 @@ fn plan_reshard_command<'a>(alloc: Global, servers: bool) -> Result<Command<'a>,
 }
 
 /// The command that plans each node's share by its weight.
-fn plan_rebalance_command<'a>(alloc: Global, servers: bool) -> Result<Command<'a>, AllocError>
-    ensures shape { IfOk result (λ command. shape_of command ≡ plan_rebalance servers) }
+fn plan_rebalance_command<'a>(alloc: Global, kind: StartKind) -> Result<Command<'a>, AllocError>
+    ensures shape { IfOk result (λ command. shape_of command ≡ plan_rebalance kind) }
     ensures local { IfOk result (λ command. (fields_of command).has_globals ≡ false) }
 {
     let options = vec![in alloc;
-        nodes_option(alloc, !servers),
+        nodes_option(alloc, kind.is_even()),
         even_option(alloc),
-        cluster_option(alloc, servers, START_HELP),
+        cluster_option(alloc, kind.is_cluster(), START_HELP),
         expect_option(alloc),
+        survey_option(alloc, kind.is_survey()),
         weights_option(alloc),
         threshold_option(alloc),
         use_empty_flag(alloc),
@@ -459,15 +498,16 @@ fn plan_rebalance_command<'a>(alloc: Global, servers: bool) -> Result<Command<'a
 }
 
 /// The command that plans how nodes are drained.
-fn plan_drain_command<'a>(alloc: Global, servers: bool) -> Result<Command<'a>, AllocError>
-    ensures shape { IfOk result (λ command. shape_of command ≡ plan_drain servers) }
+fn plan_drain_command<'a>(alloc: Global, kind: StartKind) -> Result<Command<'a>, AllocError>
+    ensures shape { IfOk result (λ command. shape_of command ≡ plan_drain kind) }
     ensures local { IfOk result (λ command. (fields_of command).has_globals ≡ false) }
 {
     let options = vec![in alloc;
-        nodes_option(alloc, !servers),
+        nodes_option(alloc, kind.is_even()),
         even_option(alloc),
-        cluster_option(alloc, servers, START_HELP),
+        cluster_option(alloc, kind.is_cluster(), START_HELP),
         expect_option(alloc),
+        survey_option(alloc, kind.is_survey()),
         drained_option(alloc),
         some_to_option(alloc),
         batch_option(alloc),
@@ -525,6 +565,7 @@ fn survey_command<'a>(alloc: Global) -> Result<Command<'a>, AllocError>
         slots_flag(alloc),
         keys_flag(alloc),
         stranded_flag(alloc),
+        full_flag(alloc),
     ]?;
     let command = Command::new(alloc, "survey")
         .about("Prints the nodes of a cluster of servers, and its open slots")
@@ -543,6 +584,8 @@ fn apply_command<'a>(alloc: Global) -> Result<Command<'a>, AllocError>
         timeout_option(alloc),
         keys_option(alloc),
         log_option(alloc),
+        append_flag(alloc),
+        overwrite_flag(alloc),
         stop_file_option(alloc),
         wait_for_news_flag(alloc),
         dead_for_good_option(alloc),
@@ -578,15 +621,16 @@ fn resume_command<'a>(alloc: Global) -> Result<Command<'a>, AllocError>
 }
 
 /// The command that tells what a plan does.
-fn explain_command<'a>(alloc: Global, servers: bool) -> Result<Command<'a>, AllocError>
-    ensures shape { IfOk result (λ command. shape_of command ≡ explain servers) }
+fn explain_command<'a>(alloc: Global, kind: StartKind) -> Result<Command<'a>, AllocError>
+    ensures shape { IfOk result (λ command. shape_of command ≡ explain kind) }
     ensures local { IfOk result (λ command. (fields_of command).has_globals ≡ false) }
 {
     let options = vec![in alloc;
-        nodes_option(alloc, !servers),
+        nodes_option(alloc, kind.is_even()),
         even_option(alloc),
-        cluster_option(alloc, servers, START_HELP),
+        cluster_option(alloc, kind.is_cluster(), START_HELP),
         expect_option(alloc),
+        survey_option(alloc, kind.is_survey()),
         json_flag(alloc),
     ]?;
     let command = Command::new(alloc, "explain")
@@ -596,15 +640,16 @@ fn explain_command<'a>(alloc: Global, servers: bool) -> Result<Command<'a>, Allo
 }
 
 /// The command that draws what a plan does.
-fn draw_command<'a>(alloc: Global, servers: bool) -> Result<Command<'a>, AllocError>
-    ensures shape { IfOk result (λ command. shape_of command ≡ draw servers) }
+fn draw_command<'a>(alloc: Global, kind: StartKind) -> Result<Command<'a>, AllocError>
+    ensures shape { IfOk result (λ command. shape_of command ≡ draw kind) }
     ensures local { IfOk result (λ command. (fields_of command).has_globals ≡ false) }
 {
     let options = vec![in alloc;
-        nodes_option(alloc, !servers),
+        nodes_option(alloc, kind.is_even()),
         even_option(alloc),
-        cluster_option(alloc, servers, START_HELP),
+        cluster_option(alloc, kind.is_cluster(), START_HELP),
         expect_option(alloc),
+        survey_option(alloc, kind.is_survey()),
         now_flag(alloc),
     ]?;
     let command = Command::new(alloc, "draw")

@@ -13,6 +13,8 @@ pub enum OptionFault {
     Uneven(Sizes),
     /// Both an even split and a cluster of servers are given.
     TwoStarts,
+    /// A file of a survey is given, and an even split or a cluster of servers, too.
+    SurveyBeside,
     /// A file of names is given, and no cluster of servers.
     NoCluster,
     /// What is there is to be drawn, and no cluster of servers is given.
@@ -23,6 +25,10 @@ pub enum OptionFault {
     NoId,
     /// The text that is to say how many slots move is no number of slots, nor `all`.
     NoCount,
+    /// The log is to be appended to, and overwritten.
+    TwoLogStarts,
+    /// It is said how a log begins, and no log is given.
+    NoLog,
 }
 
 impl fmt::Display for OptionFault {
@@ -41,6 +47,10 @@ impl fmt::Display for OptionFault {
                 f,
                 "error: --cluster stands in place of --nodes and --even\n"
             ),
+            Self::SurveyBeside => write!(
+                f,
+                "error: --survey stands in place of --cluster, --nodes and --even\n"
+            ),
             Self::NoCluster => write!(f, "error: --expect goes with --cluster\n"),
             Self::NowAlone => write!(f, "error: --now goes with --cluster\n"),
             Self::NoAddress => write!(
@@ -52,6 +62,10 @@ impl fmt::Display for OptionFault {
                 "error: --dead-for-good is IDs of 40 digits, 0 to 9 and a to f, with commas between them\n"
             ),
             Self::NoCount => write!(f, "error: --slots is a number, 0 to 16384, or all\n"),
+            Self::TwoLogStarts => {
+                write!(f, "error: --append and --overwrite do not go together\n")
+            }
+            Self::NoLog => write!(f, "error: --append and --overwrite go with --log\n"),
         }
     }
 }

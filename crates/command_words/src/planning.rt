@@ -188,7 +188,7 @@ pub fn weights_option<'a>(alloc: Global) -> Arg<'a>
         alloc,
         "weights",
         "WEIGHTS",
-        "A weight for each node, 0 to 1000, as 2,1,1; each is 1 unless they are given",
+        "A weight for each node, 0 to 1000, as 2,1,1, or of some by name, as n0=2,n3=0; others are 1",
     )
 }
 

@@ -3,7 +3,8 @@ ghost use Rattle.std.specs.Prelude.{◌≡◌, IfOk, MatchResult, false};
 ghost use Rattle.clap.specs.Words.{found_of, rows_of, rule_of};
 ghost use Rattle.command_words.specs.Clusters.{IsAddressed};
 ghost use Rattle.command_words.specs.Faults.{IsAtFault};
-ghost use Rattle.command_words.specs.Surveying.{AreSurveyRows, HasSurvey, keys_flag, slots_flag, stranded_flag};
+ghost use Rattle.command_words.specs.Surveying.{AreSurveyRows, HasSurvey, full_flag, keys_flag, slots_flag};
+ghost use Rattle.command_words.specs.Surveying.{stranded_flag};
 
 use crate::arguments::{flag, flag_in};
 use crate::clusters::cluster_words;
@@ -25,12 +26,14 @@ pub fn survey_words(
     let slots = flag_in(given, "slots");
     let keys = flag_in(given, "keys");
     let stranded = flag_in(given, "stranded");
+    let full = flag_in(given, "full");
     match cluster_words(alloc, given)? {
         Ok(cluster) => Ok(Ok(SurveyWords {
             cluster,
             slots,
             keys,
             stranded,
+            full,
         })),
         Err(fault) => Ok(Err(fault)),
     }
@@ -61,5 +64,17 @@ pub fn stranded_flag<'a>(alloc: Global) -> Arg<'a>
         alloc,
         "stranded",
         "Looks for keys that lie at a master which does not own their slot, where no slot is open",
+    )
+}
+
+/// All is printed that a plan can start from.
+pub fn full_flag<'a>(alloc: Global) -> Arg<'a>
+    ensures rule { rule_of result ≡ full_flag }
+    ensures local { result.global ≡ false }
+{
+    flag(
+        alloc,
+        "full",
+        "Prints all that a plan can start from: `--survey FILE` of other commands reads it",
     )
 }

@@ -166,6 +166,8 @@ to tell them.
 With --stranded, and where the last line is `clean`, each master is asked for its keys of the slots that it does not
 own. A line for each slot and master that has some follows, with status 1, as `resume` prints it.
 
+With --full it is what `--survey FILE` of the planners, `verify`, `explain` and `draw` reads: the ranges of slots, too.
+
 A password is taken from RESHARD_AUTH of the environment, and a user's name from RESHARD_USER. There is no TLS.
 
 `reshard survey --cluster 127.0.0.1:7000 --slots --keys` prints lines as these:

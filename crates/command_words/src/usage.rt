@@ -31,6 +31,8 @@ pub enum Start {
     Even(Sizes),
     /// The nodes of a cluster of servers, as these say when they are asked.
     Cluster(ClusterWords),
+    /// The nodes of the survey in the file with this path.
+    Survey(String),
 }
 
 /// A cluster of servers.
@@ -52,6 +54,19 @@ pub struct SurveyWords {
     pub keys: bool,
     /// Keys are looked for that lie at a master which does not own their slot.
     pub stranded: bool,
+    /// All is printed that a plan can start from: the ranges of slots, too.
+    pub full: bool,
+}
+
+/// How a log begins where a file with its name is there.
+#[derive(Clone, Copy, Debug, PartialEq, Eq)]
+pub enum LogStart {
+    /// A file that holds something is refused.
+    New,
+    /// After what the file holds.
+    Append,
+    /// In place of what the file holds.
+    Overwrite,
 }
 
 /// What is asked of a plan that runs at a cluster of servers.
@@ -64,6 +79,8 @@ pub struct ApplyWords {
     pub keys_per_second: Option<u32>,
     /// The path of a file to which each command and its reply are written.
     pub log: Option<String>,
+    /// How it begins. `resume` appends in any case.
+    pub log_start: LogStart,
     /// A path; once something is there, no further slot is begun.
     pub stop_file: Option<String>,
     /// A slot's source and the other masters are told of its new owner once each of them has heard of it.

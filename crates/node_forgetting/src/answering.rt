@@ -4,8 +4,8 @@ ghost use Rattle.node_forgetting.specs.Texts.{address_text, follower_text, forgo
 ghost use Rattle.node_forgetting.specs.Texts.{by_hand_text, part_text, untold_line};
 
 use byte_texts::{Memory, Text};
-use listed_nodes::NodeLine;
 use key_slots::NodeId;
+use listed_nodes::NodeLine;
 use server_commands::Server;
 use survey_texts::{put, put_node, put_number};
 

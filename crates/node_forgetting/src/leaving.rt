@@ -2,9 +2,9 @@
 ghost use Rattle.std.specs.Prelude.{◌≡◌, [], None};
 ghost use Rattle.node_forgetting.specs.Holding.{hold};
 
-use listed_nodes::NodeLine;
 use cluster_views::ServerSurvey;
 use key_slots::NodeId;
+use listed_nodes::NodeLine;
 use server_commands::Server;
 
 /// A node that a survey does not hold, and that no replica follows: only such a node is forgotten.

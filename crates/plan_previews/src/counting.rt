@@ -9,10 +9,10 @@ use cluster_views::{ServerSurvey, SurveyFault};
 use plan_changes::PlanLoad;
 use plan_outlines::NodeServer;
 use plan_runner::Plan;
-use slot_key_counts::key_counts;
 use server_commands::ServerBook;
 use server_infos::servers_of;
 use server_links::Link;
+use slot_key_counts::key_counts;
 use std::alloc::Global;
 
 /// What servers tell of the keys that a plan moves, and of themselves.

@@ -6,8 +6,8 @@ ghost use Rattle.redis_servers.specs.Calls.{Commands, IsExcused, IsOutcome, Read
 ghost use Rattle.redis_servers.specs.InOneGo.{Finishes};
 
 use crate::asking::{ask_node, hear_from};
-use crate::run_history::RunHistory;
 use crate::port_stop::PortStop;
+use crate::run_history::RunHistory;
 use crate::setup::PortSetup;
 use crate::words::{text_kept, useless_words};
 use byte_streams::{ByteIn, ByteOut};

@@ -101,7 +101,12 @@ pub(crate) fn duties_after(
 }
 
 /// What is to be known of other servers' claims before this node makes one.
-fn news_at(alloc: Global, history: &RunHistory, nodes: u8, target: NodeId) -> Result<Vec<Duty>, Memory>
+fn news_at(
+    alloc: Global,
+    history: &RunHistory,
+    nodes: u8,
+    target: NodeId,
+) -> Result<Vec<Duty>, Memory>
     requires { length history.now.receivers ≡ nodes }
     ensures { IfOk result (λ v. v.items ≡ news_at history.now target) }
 {

@@ -6,14 +6,14 @@ ghost use Rattle.redis_servers.specs.Hearing.{epoch_named, same_epoch};
 ghost use Rattle.redis_servers.specs.Hearing.{unheard_text};
 
 use crate::asking::ask_node;
-use crate::port_stop::{PortStop, continue_if};
 use crate::pause::Pause;
+use crate::port_stop::{PortStop, continue_if};
 use crate::words::{node_words, useless_words};
 use byte_streams::{ByteIn, ByteOut};
 use byte_texts::{Memory, Text};
 use cluster_admin::PortFault;
-use listed_nodes::{NodeLine, nodes_in};
 use key_slots::NodeId;
+use listed_nodes::{NodeLine, nodes_in};
 use resp2_wire::Reply;
 use server_commands::{Credentials, NODES_REQUEST};
 use server_links::{Link, ReplyLimit};

@@ -4,9 +4,7 @@
 
 mod asking;
 mod commanding;
-mod run_history;
 mod duty;
-mod port_stop;
 mod hearers;
 mod hearing;
 mod laws;
@@ -14,6 +12,8 @@ mod looking;
 mod meeting;
 mod pause;
 mod port;
+mod port_stop;
+mod run_history;
 mod seat;
 mod setup;
 mod shown;

@@ -8,19 +8,19 @@ ghost use Rattle.redis_servers.specs.Meeting.{Hears, HearsAll, Meets, MeetsAll, 
 ghost use Rattle.redis_servers.specs.Meeting.{ShowsStill};
 ghost use Rattle.redis_servers.specs.Unmet.{disowned_text, late_text, lost_writes_text, replica_text, unmet_text};
 
-use crate::run_history::RunHistory;
 use crate::duty::Duty;
-use crate::port_stop::{PortStop, continue_if};
 use crate::hearers::Hearer;
 use crate::hearing::wait_until_heard;
 use crate::looking::{look_at, role_at};
 use crate::pause::Pause;
+use crate::port_stop::{PortStop, continue_if};
+use crate::run_history::RunHistory;
 use crate::setup::PortSetup;
 use crate::shown::{owns_slot, shows_news, shows_owner};
 use byte_streams::{ByteIn, ByteOut};
 use byte_texts::Text;
-use listed_nodes::NodeLine;
 use key_slots::{NodeId, Slot};
+use listed_nodes::NodeLine;
 use server_links::Link;
 
 /// Servers show one after the other what they have to, up to the first that does not. These are the texts that are said

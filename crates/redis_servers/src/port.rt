@@ -19,12 +19,12 @@ ghost use Rattle.redis_servers.specs.Told.{TellsClosed, TellsSame};
 ghost use Rattle.redis_servers.specs.Unmet.{late_text, unmet_text};
 
 use crate::commanding::{Given, Outcome, command_at};
-use crate::run_history::RunHistory;
 use crate::duty::{Duty, duties_after, duties_before};
-use crate::port_stop::PortStop;
 use crate::hearers::{Hearer, hearers_after};
 use crate::meeting::{hear_all, meet_all};
 use crate::pause::Pause;
+use crate::port_stop::PortStop;
+use crate::run_history::RunHistory;
 use crate::seat::ServersSeat;
 use crate::setup::PortSetup;
 use crate::telling::{Prepared, is_done, prepare, said_of, stops_by, tell_each};
@@ -476,7 +476,14 @@ impl<I: ByteIn + Drop, O: ByteOut + Drop, P: Pause + Drop> ServersPort<I, O, P> 
             ..
         } = &self.setup;
         let request = self.setup.request(command)?;
-        let before = duties_before(*alloc, &self.history, survey, *waits_for_news, node, command)?;
+        let before = duties_before(
+            *alloc,
+            &self.history,
+            survey,
+            *waits_for_news,
+            node,
+            command,
+        )?;
         let unmet = unmet_texts(*alloc, before.as_slice())?;
         let after = duties_after(*alloc, &self.history, survey, node, command)?;
         let undone = unmet_texts(*alloc, after.as_slice())?;

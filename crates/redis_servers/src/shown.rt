@@ -3,13 +3,13 @@ ghost use Rattle.std.specs.Prelude.{◌≡◌, ◌↔◌, ◌<◌, ◌-◌, suc,
 ghost use Rattle.redis_servers.specs.Looking.{AreApart, IsApart, ShowsNews, claims_any, claims_taken, clash, covers};
 ghost use Rattle.redis_servers.specs.Looking.{has_slot, owns_slot, shows_owner, still_claims, taken_within};
 
-use crate::run_history::RunHistory;
 use crate::hearing::{epoch_named, same_epoch};
+use crate::run_history::RunHistory;
 use crate::setup::PortSetup;
 use byte_texts::is;
 use cluster_admin::Survey;
-use listed_nodes::{NodeLine, SlotWord};
 use key_slots::{NodeId, Slot};
+use listed_nodes::{NodeLine, SlotWord};
 use server_commands::ServerBook;
 
 /// Whether the node claims no slot any more that another one took over from it, and has heard of epochs of which no two
@@ -23,7 +23,8 @@ pub(crate) fn shows_news(
     requires { node < length setup.now.survey.rows }
     ensures { IsTrue result ↔ ShowsNews setup.now history.now node nodes.now }
 {
-    !still_claims(history, &setup.survey, node, nodes) && are_apart(&setup.book, history, node, nodes)
+    !still_claims(history, &setup.survey, node, nodes)
+        && are_apart(&setup.book, history, node, nodes)
 }
 
 /// Whether the server that answers claims a slot that another one took over from it.
@@ -54,7 +55,13 @@ fn claims_taken(history: &RunHistory, survey: &Survey, node: NodeId, word: &Slot
 }
 
 /// Whether another node took one of these slots over from this one.
-fn taken_within(history: &RunHistory, survey: &Survey, node: NodeId, first: Slot, last: Slot) -> bool
+fn taken_within(
+    history: &RunHistory,
+    survey: &Survey,
+    node: NodeId,
+    first: Slot,
+    last: Slot,
+) -> bool
     requires { node < length survey.now.rows }
     ensures { result ≡ taken_within history.now survey.now node first (suc last - first) }
 {

@@ -1,4 +1,5 @@
 pub mod Joined
+pub mod Kinds
 pub mod Likely
 pub mod Marks
 pub mod Moved

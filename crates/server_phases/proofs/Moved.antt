@@ -45,7 +45,7 @@ plan-append n (x ∷ xs) ys =
     ap (λ t. line_commands n x ++ t) (plan-append n xs ys)
     ∙ sym (append_assoc (line_commands n x) (plan_commands n xs) (plan_commands n ys))
 
-count-append : (l : Limits) (xs ys : List Line) → count l (xs ++ ys) ≡ count l xs + count l ys
+pub count-append : (l : Limits) (xs ys : List Line) → count l (xs ++ ys) ≡ count l xs + count l ys
 count-append l [] ys = omega arith
 count-append l (x ∷ xs) ys =
     let e : count l (xs ++ ys) ≡ count l xs + count l ys = count-append l xs ys in

@@ -6,3 +6,4 @@ pub mod ServerPhases
 pub mod Stranded
 pub mod Strange
 pub mod Texts
+pub mod ToldFirst

@@ -16,6 +16,7 @@ use Rattle.plan_language.specs.declared.plan_command.PlanCommand.{PlanCommand}
 use Rattle.plan_semantics.specs.Surveyed.{Shows, node_count}
 use Rattle.reshard_planner.specs.Blank.{names_for}
 use Rattle.reshard_planner.specs.Resuming.{IsStrange, rests_below}
+use Rattle.server_phases.specs.ToldFirst.{told_first}
 use Rattle.server_phases.specs.declared.resume_fault.ResumeFault.{ResumeFault}
 use Rattle.server_phases.specs.declared.resume_fault.ResumeFault.TheVariants as fault
 
@@ -111,9 +112,9 @@ IsUnmoved old moves (fault.TooLong most) =
     IsTooLong old.names (plan_count old.names old.lines + moves_count old.names (length moves)) most
 IsUnmoved old moves other = ⊥
 
--- the rests of all slots
+-- the rests of all slots, those first whose target was told
 abbrev pub rests : Survey → (batch : ℕ) → Phases → List Line
-rests survey b phases = rests_below (node_count survey) b phases 16384
+rests survey b phases = told_first survey (rests_below (node_count survey) b phases 16384)
 
 -- the names of a plan for the survey's nodes: none, or no name yet
 abbrev pub names_over : Survey → Option Names

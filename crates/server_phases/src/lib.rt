@@ -2,7 +2,6 @@
 //! closes them.
 #![tactic(auto)]
 
-mod route;
 mod key_counts;
 mod looking;
 mod opening;
@@ -12,13 +11,14 @@ mod printing;
 mod rests;
 mod resume_fault;
 mod resuming;
+mod route;
 mod server_phase;
 mod stranded;
 mod strange;
 mod strange_slot;
 mod strangeness;
+mod told_first;
 
-pub use route::Route;
 pub use key_counts::KeyCounts;
 pub use opening::open_survey;
 pub use phase_fault::PhaseFault;
@@ -27,6 +27,7 @@ pub use printing::put_phase_lines;
 pub use rests::REST_BATCH;
 pub use resume_fault::ResumeFault;
 pub use resuming::resumed_plan;
+pub use route::Route;
 pub use server_phase::ServerPhase;
 pub use stranded::put_stranded_lines;
 pub use strange_slot::StrangeSlot;

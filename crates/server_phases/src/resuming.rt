@@ -12,6 +12,7 @@ ghost use Rattle.server_phases.specs.Resumed.{IsBeyond, IsCommand, IsLineFault, 
 ghost use Rattle.server_phases.specs.Resumed.{plan_count, run, stays_at, still, still_left, still_of};
 
 use crate::resume_fault::ResumeFault;
+use crate::told_first::told_first;
 use cluster_admin::{Phase, Survey};
 use key_slots::{NodeId, Slot};
 use plan_language::{Line, Plan};
@@ -26,11 +27,11 @@ struct Ends {
     batch: u16,
 }
 
-/// The plan by the rules of version 3 that closes every slot which stands open, as [`resume`] does with this batch of 1
-/// to 1,000 keys, and then moves each slot of these lines, with the line's own batch, that all nodes say is still at
-/// the line's source and that has no mark. Slots that are open, or elsewhere by now, are left out of the moves (the
-/// page of CLUSTER SETSLOT, "Redis Cluster live resharding explained"). Of more than eight nodes the plan lists no
-/// names yet: the caller puts them in. Whoever runs the plan verifies it first: lines that move one slot twice make it
+/// The plan by the rules of version 3 that closes every slot which stands open, by the commands of [`resume`] with this
+/// batch of 1 to 1,000 keys, slots whose target was told first, and then moves each slot of these lines, with the
+/// line's own batch, that all nodes say is still at the line's source and that has no mark. Slots that are open, or
+/// elsewhere by now, are left out of the moves (the page of CLUSTER SETSLOT, "Redis Cluster live resharding
+/// explained"). Of more than eight nodes the plan lists no names yet: the caller puts them in. Whoever runs the plan verifies it first: lines that move one slot twice make it
 /// illegal.
 ///
 /// Strange comes before the other faults. The lines are then taken in their order: at the first that is no move NoMove
@@ -52,14 +53,14 @@ pub fn resumed_plan(
     Ok(plan)
 }
 
-/// The plan of the rests.
+/// The plan of the rests, those first whose target was told.
 fn rests(alloc: Global, survey: &Survey, batch: u16) -> Result<Plan, ResumeFault>
     requires some_keys { 1 ≤ batch }
     requires most_keys { batch ≤ 1000 }
     ensures { MatchResult result (AreRests survey.now batch) (AreNoRests survey.now) }
 {
     match resume(alloc, survey, batch) {
-        Ok(plan) => Ok(plan),
+        Ok(plan) => Ok(told_first(&plan, survey)?),
         Err(PlannerFault::StrangeMarks(_)) => Err(ResumeFault::Strange),
         Err(_) => Err(ResumeFault::Memory),
     }

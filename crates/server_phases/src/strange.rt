@@ -5,8 +5,8 @@ ghost use Rattle.server_phases.specs.Strange.{first_coming, first_going, one_goi
 ghost use Rattle.server_phases.specs.Strange.{stray_going, strangeness, two_coming, two_going, two_owners};
 ghost use Rattle.server_phases.specs.Strange.{with_slots};
 
-use crate::route::Route;
 use crate::looking::{dissenter, first_coming, first_going, next_coming, next_going};
+use crate::route::Route;
 use crate::strangeness::Strangeness;
 use cluster_views::ServerSurvey;
 use key_slots::{NodeId, Slot};

@@ -7,9 +7,9 @@ ghost use Rattle.server_replicas.specs.Asking.{lines_told, replicas_request, rep
 
 use byte_streams::{ByteIn, ByteOut};
 use byte_texts::{Memory, Text, TextList};
-use listed_nodes::{NodeLine, line_in};
 use cluster_views::SurveyFault;
 use key_slots::NodeId;
+use listed_nodes::{NodeLine, line_in};
 use resp2_wire::{Reply, encode_request};
 use server_commands::words::{put, put_text};
 use server_links::{Link, ReplyLimit, ask_at};

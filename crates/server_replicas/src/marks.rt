@@ -3,9 +3,9 @@ ghost use Rattle.std.specs.Prelude.{◌≡◌, ◌<◌, ◌||◌, ℕ, false, is
 ghost use Rattle.cluster_views.specs.Surveying.{has_mark};
 ghost use Rattle.server_replicas.specs.Marks.{is_marked, marks, marks_own, shows_mark};
 
-use listed_nodes::{NodeLine, SlotWord};
 use cluster_views::ServerSurvey;
 use key_slots::{NodeId, SLOTS, Slot};
+use listed_nodes::{NodeLine, SlotWord};
 
 /// Whether the node has a mark of any slot.
 pub(crate) fn has_marks(survey: &ServerSurvey, node: NodeId) -> bool

@@ -7,9 +7,9 @@ ghost use Rattle.server_replicas.specs.Telling.{untold_line};
 
 use crate::marks::{has_mark, shows_mark};
 use byte_texts::Memory;
-use listed_nodes::NodeLine;
 use cluster_views::ServerSurvey;
 use key_slots::{NodeId, SLOTS, Slot};
+use listed_nodes::NodeLine;
 use survey_texts::{put, put_node, put_number};
 
 /// Puts a line for each mark of the node that its replica does not tell in these lines.

@@ -1,9 +1,9 @@
 //! Dead masters that servers list: one that failed and has no slots is left out, and no other.
 use crate::phases::{SOURCE, TARGET, THIRD, view};
 use crate::servers::book;
-use listed_nodes::NodeLines;
 use cluster_survey::masters_of;
 use cluster_views::{SurveyFault, survey_of};
+use listed_nodes::NodeLines;
 use std::alloc::Global;
 use std::test::Fail;
 

@@ -3,9 +3,9 @@ ghost use Rattle.std.specs.Prelude.{◌≡◌, IfOk, length};
 
 use crate::servers::book;
 use byte_texts::Memory;
-use listed_nodes::{NodeLines, nodes_in};
 use cluster_views::{ServerSurvey, SurveyFault, Surveyed, survey_of};
 use key_slots::{NodeId, Slot};
+use listed_nodes::{NodeLines, nodes_in};
 use plan_language::{Line, Plan, print};
 use server_phases::{
     KeyCounts, ServerPhase, next_open, open_survey, phase_at, put_phase_lines, resumed_plan,

@@ -3,8 +3,8 @@ ghost use Rattle.std.specs.Prelude.{◌≡◌, IfOk, length};
 
 use crate::phases::{lines_of, view};
 use crate::servers::book;
-use listed_nodes::NodeLines;
 use cluster_views::{SurveyFault, Surveyed, survey_of};
+use listed_nodes::NodeLines;
 use std::alloc::Global;
 use std::test::Fail;
 

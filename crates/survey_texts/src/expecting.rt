@@ -7,8 +7,8 @@ ghost use Rattle.survey_texts.specs.Expecting.{is_passed, node_of, node_of_words
 
 use crate::expect_fault::ExpectFault;
 use byte_texts::{Parts, Text, TextList, is};
-use listed_nodes::is_name;
 use key_slots::{MAX_NODES, NodeId};
+use listed_nodes::is_name;
 use server_commands::{Server, ServerBook};
 use std::alloc::Global;
 

@@ -14,6 +14,8 @@ with_options-requires-clause-own c =
     ∷ c.timeout_option.result
     ∷ c.keys_option.result
     ∷ c.log_option.result
+    ∷ c.append_flag.result
+    ∷ c.overwrite_flag.result
     ∷ c.stop_file_option.result
     ∷ c.wait_for_news_flag.result
     ∷ c.dead_for_good_option.result
@@ -28,12 +30,18 @@ with_options-requires-clause-own c =
             (
               c.log_option.ensures.local,
               (
-                c.stop_file_option.ensures.local,
+                c.append_flag.ensures.local,
                 (
-                  c.wait_for_news_flag.ensures.local,
+                  c.overwrite_flag.ensures.local,
                   (
-                    c.dead_for_good_option.ensures.local,
-                    (c.plan_option.ensures.local, tt),
+                    c.stop_file_option.ensures.local,
+                    (
+                      c.wait_for_news_flag.ensures.local,
+                      (
+                        c.dead_for_good_option.ensures.local,
+                        (c.plan_option.ensures.local, tt),
+                      ),
+                    ),
                   ),
                 ),
               ),
@@ -53,9 +61,11 @@ returns-clause-shape c =
     (ap₂ ◌∷◌ c.timeout_option.ensures.rule
     (ap₂ ◌∷◌ c.keys_option.ensures.rule
     (ap₂ ◌∷◌ c.log_option.ensures.rule
+    (ap₂ ◌∷◌ c.append_flag.ensures.rule
+    (ap₂ ◌∷◌ c.overwrite_flag.ensures.rule
     (ap₂ ◌∷◌ c.stop_file_option.ensures.rule
     (ap₂ ◌∷◌ c.wait_for_news_flag.ensures.rule
     (ap₂ ◌∷◌ c.dead_for_good_option.ensures.rule
-    (ap₂ ◌∷◌ c.plan_option.ensures.rule refl)))))))) in
+    (ap₂ ◌∷◌ c.plan_option.ensures.rule refl)))))))))) in
     IfOk-weaker c.with_options.result _ _ (λ command is. ap (λ (a : App). a.top)
     (is ∙ ap₂ (fold with_rule) start_is rules_are)) c.with_options.ensures.app

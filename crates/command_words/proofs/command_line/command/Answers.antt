@@ -20,13 +20,13 @@ returns c =
     let rehearses : app_of c.in_ok-program.program ≡ with_subcommand top (new_shape (codes "rehearse")) =
     c.in_ok-program.ensures.shape c.rehearse_command.ensures.local
     ∙ ap₂ with_subcommand c.top_command.ensures c.rehearse_command.ensures.shape in
-    let verifies = gained c.verify_command.result (verify c.args.servers) c.in_ok-program.program
+    let verifies = gained c.verify_command.result (verify c.args.kind) c.in_ok-program.program
     c.in_ok-program-2.program _
     rehearses c.verify_command.ensures.shape c.in_ok-program-2.ensures in
-    let reshards = gained c.plan_reshard_command.result (plan_reshard c.args.servers) c.in_ok-program-2.program
+    let reshards = gained c.plan_reshard_command.result (plan_reshard c.args.kind) c.in_ok-program-2.program
     c.in_ok-program-3.program _
     verifies c.plan_reshard_command.ensures.shape c.in_ok-program-3.ensures in
-    let rebalances = gained c.plan_rebalance_command.result (plan_rebalance c.args.servers) c.in_ok-program-3.program
+    let rebalances = gained c.plan_rebalance_command.result (plan_rebalance c.args.kind) c.in_ok-program-3.program
     c.in_ok-program-4.program _
     reshards c.plan_rebalance_command.ensures.shape c.in_ok-program-4.ensures in
     let serves = gained c.serve_command.result serve c.in_ok-program-4.program c.in_ok-program-5.program _
@@ -37,13 +37,13 @@ returns c =
     surveys c.apply_command.ensures.shape c.in_ok-program-7.ensures in
     let resumes = gained c.resume_command.result resume c.in_ok-program-7.program c.in_ok-program-8.program _
     applies c.resume_command.ensures.shape c.in_ok-program-8.ensures in
-    let explains = gained c.explain_command.result (explain c.args.servers) c.in_ok-program-8.program
+    let explains = gained c.explain_command.result (explain c.args.kind) c.in_ok-program-8.program
     c.in_ok-program-9.program _
     resumes c.explain_command.ensures.shape c.in_ok-program-9.ensures in
-    let draws = gained c.draw_command.result (draw c.args.servers) c.in_ok-program-9.program c.in_ok-program-10.program
+    let draws = gained c.draw_command.result (draw c.args.kind) c.in_ok-program-9.program c.in_ok-program-10.program
     _
     explains c.draw_command.ensures.shape c.in_ok-program-10.ensures in
-    let drains = gained c.plan_drain_command.result (plan_drain c.args.servers) c.in_ok-program-10.program
+    let drains = gained c.plan_drain_command.result (plan_drain c.args.kind) c.in_ok-program-10.program
     c.in_ok-program-11.program _
     draws c.plan_drain_command.ensures.shape c.in_ok-program-11.ensures in
     IfOk-weaker c.with_command-11.result _ _ (λ command forgets. gained c.forget_command.result forget c.in_ok-program-11.program command _

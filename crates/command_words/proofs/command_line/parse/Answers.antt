@@ -1,7 +1,7 @@
 use Rattle.std.proofs.Common.{rules, ◌≡◌, ◌∷◌, [], codes, map}
 use Rattle.std.proofs.lemmas.Result.{IfOk-weaker}
 use Rattle.clap.specs.Words.{HasKind, app_of}
-use Rattle.command_words.specs.CommandLine.{names_cluster, reshard, texts}
+use Rattle.command_words.specs.CommandLine.{start_kind, reshard, texts}
 use Rattle.command_words.proofs.CommandLines.{apply_options, asked, command_asked, command_rehearses, drain_options}
 use Rattle.command_words.proofs.CommandLines.{draw_options, forget_options}
 use Rattle.command_words.proofs.CommandLines.{err_gives_nothing, explain_options, found, memory_alone, met}
@@ -11,7 +11,7 @@ use Rattle.command_words.proofs.command_line.parse.Goals as goal
 
 pub command_of-usage-requires-clause-verified : goal.command_of-usage-requires-clause-verified
 command_of-usage-requires-clause-verified c = λ rows named.
-    let command_is : app_of c.in_ok-command.field-0 ≡ reshard (names_cluster (texts c.args.words.now)) = search rules in
+    let command_is : app_of c.in_ok-command.field-0 ≡ reshard (start_kind (texts c.args.words.now)) = search rules in
     let words_are : map (λ word. word.now) c.as_slice.result.now ≡ codes "reshard" ∷ texts c.args.words.now =
     search rules in
     verify_options _ _ (met _ _ _ c.in-Ok.matches command_is words_are c.in-Ok.ensures.matches) rows
@@ -19,7 +19,7 @@ command_of-usage-requires-clause-verified c = λ rows named.
 
 pub command_of-usage-requires-clause-resharded : goal.command_of-usage-requires-clause-resharded
 command_of-usage-requires-clause-resharded c = λ rows named.
-    let command_is : app_of c.in_ok-command.field-0 ≡ reshard (names_cluster (texts c.args.words.now)) = search rules in
+    let command_is : app_of c.in_ok-command.field-0 ≡ reshard (start_kind (texts c.args.words.now)) = search rules in
     let words_are : map (λ word. word.now) c.as_slice.result.now ≡ codes "reshard" ∷ texts c.args.words.now =
     search rules in
     reshard_options _ _ (met _ _ _ c.in-Ok.matches command_is words_are c.in-Ok.ensures.matches) rows
@@ -27,7 +27,7 @@ command_of-usage-requires-clause-resharded c = λ rows named.
 
 pub command_of-usage-requires-clause-rebalanced : goal.command_of-usage-requires-clause-rebalanced
 command_of-usage-requires-clause-rebalanced c = λ rows named.
-    let command_is : app_of c.in_ok-command.field-0 ≡ reshard (names_cluster (texts c.args.words.now)) = search rules in
+    let command_is : app_of c.in_ok-command.field-0 ≡ reshard (start_kind (texts c.args.words.now)) = search rules in
     let words_are : map (λ word. word.now) c.as_slice.result.now ≡ codes "reshard" ∷ texts c.args.words.now =
     search rules in
     rebalance_options _ _ (met _ _ _ c.in-Ok.matches command_is words_are c.in-Ok.ensures.matches) rows
@@ -35,7 +35,7 @@ command_of-usage-requires-clause-rebalanced c = λ rows named.
 
 pub command_of-usage-requires-clause-served : goal.command_of-usage-requires-clause-served
 command_of-usage-requires-clause-served c = λ rows named.
-    let command_is : app_of c.in_ok-command.field-0 ≡ reshard (names_cluster (texts c.args.words.now)) = search rules in
+    let command_is : app_of c.in_ok-command.field-0 ≡ reshard (start_kind (texts c.args.words.now)) = search rules in
     let words_are : map (λ word. word.now) c.as_slice.result.now ≡ codes "reshard" ∷ texts c.args.words.now =
     search rules in
     serve_options _ _ (met _ _ _ c.in-Ok.matches command_is words_are c.in-Ok.ensures.matches) rows
@@ -43,7 +43,7 @@ command_of-usage-requires-clause-served c = λ rows named.
 
 pub command_of-usage-requires-clause-surveyed : goal.command_of-usage-requires-clause-surveyed
 command_of-usage-requires-clause-surveyed c = λ rows named.
-    let command_is : app_of c.in_ok-command.field-0 ≡ reshard (names_cluster (texts c.args.words.now)) = search rules in
+    let command_is : app_of c.in_ok-command.field-0 ≡ reshard (start_kind (texts c.args.words.now)) = search rules in
     let words_are : map (λ word. word.now) c.as_slice.result.now ≡ codes "reshard" ∷ texts c.args.words.now =
     search rules in
     survey_options _ _ (met _ _ _ c.in-Ok.matches command_is words_are c.in-Ok.ensures.matches) rows
@@ -51,7 +51,7 @@ command_of-usage-requires-clause-surveyed c = λ rows named.
 
 pub command_of-usage-requires-clause-applied : goal.command_of-usage-requires-clause-applied
 command_of-usage-requires-clause-applied c = λ rows named.
-    let command_is : app_of c.in_ok-command.field-0 ≡ reshard (names_cluster (texts c.args.words.now)) = search rules in
+    let command_is : app_of c.in_ok-command.field-0 ≡ reshard (start_kind (texts c.args.words.now)) = search rules in
     let words_are : map (λ word. word.now) c.as_slice.result.now ≡ codes "reshard" ∷ texts c.args.words.now =
     search rules in
     apply_options _ _ (met _ _ _ c.in-Ok.matches command_is words_are c.in-Ok.ensures.matches) rows
@@ -59,7 +59,7 @@ command_of-usage-requires-clause-applied c = λ rows named.
 
 pub command_of-usage-requires-clause-resumed : goal.command_of-usage-requires-clause-resumed
 command_of-usage-requires-clause-resumed c = λ rows named.
-    let command_is : app_of c.in_ok-command.field-0 ≡ reshard (names_cluster (texts c.args.words.now)) = search rules in
+    let command_is : app_of c.in_ok-command.field-0 ≡ reshard (start_kind (texts c.args.words.now)) = search rules in
     let words_are : map (λ word. word.now) c.as_slice.result.now ≡ codes "reshard" ∷ texts c.args.words.now =
     search rules in
     resume_options _ _ (met _ _ _ c.in-Ok.matches command_is words_are c.in-Ok.ensures.matches) rows
@@ -67,7 +67,7 @@ command_of-usage-requires-clause-resumed c = λ rows named.
 
 pub command_of-usage-requires-clause-explained : goal.command_of-usage-requires-clause-explained
 command_of-usage-requires-clause-explained c = λ rows named.
-    let command_is : app_of c.in_ok-command.field-0 ≡ reshard (names_cluster (texts c.args.words.now)) = search rules in
+    let command_is : app_of c.in_ok-command.field-0 ≡ reshard (start_kind (texts c.args.words.now)) = search rules in
     let words_are : map (λ word. word.now) c.as_slice.result.now ≡ codes "reshard" ∷ texts c.args.words.now =
     search rules in
     explain_options _ _ (met _ _ _ c.in-Ok.matches command_is words_are c.in-Ok.ensures.matches) rows
@@ -75,7 +75,7 @@ command_of-usage-requires-clause-explained c = λ rows named.
 
 pub command_of-usage-requires-clause-drawn : goal.command_of-usage-requires-clause-drawn
 command_of-usage-requires-clause-drawn c = λ rows named.
-    let command_is : app_of c.in_ok-command.field-0 ≡ reshard (names_cluster (texts c.args.words.now)) = search rules in
+    let command_is : app_of c.in_ok-command.field-0 ≡ reshard (start_kind (texts c.args.words.now)) = search rules in
     let words_are : map (λ word. word.now) c.as_slice.result.now ≡ codes "reshard" ∷ texts c.args.words.now =
     search rules in
     draw_options _ _ (met _ _ _ c.in-Ok.matches command_is words_are c.in-Ok.ensures.matches) rows
@@ -83,7 +83,7 @@ command_of-usage-requires-clause-drawn c = λ rows named.
 
 pub command_of-usage-requires-clause-drained : goal.command_of-usage-requires-clause-drained
 command_of-usage-requires-clause-drained c = λ rows named.
-    let command_is : app_of c.in_ok-command.field-0 ≡ reshard (names_cluster (texts c.args.words.now)) = search rules in
+    let command_is : app_of c.in_ok-command.field-0 ≡ reshard (start_kind (texts c.args.words.now)) = search rules in
     let words_are : map (λ word. word.now) c.as_slice.result.now ≡ codes "reshard" ∷ texts c.args.words.now =
     search rules in
     drain_options _ _ (met _ _ _ c.in-Ok.matches command_is words_are c.in-Ok.ensures.matches) rows
@@ -91,7 +91,7 @@ command_of-usage-requires-clause-drained c = λ rows named.
 
 pub command_of-usage-requires-clause-forgotten : goal.command_of-usage-requires-clause-forgotten
 command_of-usage-requires-clause-forgotten c = λ rows named.
-    let command_is : app_of c.in_ok-command.field-0 ≡ reshard (names_cluster (texts c.args.words.now)) = search rules in
+    let command_is : app_of c.in_ok-command.field-0 ≡ reshard (start_kind (texts c.args.words.now)) = search rules in
     let words_are : map (λ word. word.now) c.as_slice.result.now ≡ codes "reshard" ∷ texts c.args.words.now =
     search rules in
     forget_options _ _ (met _ _ _ c.in-Ok.matches command_is words_are c.in-Ok.ensures.matches) rows
@@ -99,7 +99,7 @@ command_of-usage-requires-clause-forgotten c = λ rows named.
 
 pub returns-in-Ok-clause-asked : goal.returns-in-Ok-clause-asked
 returns-in-Ok-clause-asked c =
-    let command_is : app_of c.in_ok-command.field-0 ≡ reshard (names_cluster (texts c.args.words.now)) = search rules in
+    let command_is : app_of c.in_ok-command.field-0 ≡ reshard (start_kind (texts c.args.words.now)) = search rules in
     let words_are : map (λ word. word.now) c.as_slice.result.now ≡ codes "reshard" ∷ texts c.args.words.now =
     search rules in
     IfOk-weaker c.command_of-usage.result _ _ (λ usage command. command_asked _ _
@@ -108,7 +108,7 @@ returns-in-Ok-clause-asked c =
 
 pub returns-in-Ok-clause-rehearses : goal.returns-in-Ok-clause-rehearses
 returns-in-Ok-clause-rehearses c = λ rehearsal.
-    let command_is : app_of c.in_ok-command.field-0 ≡ reshard (names_cluster (texts c.args.words.now)) = search rules in
+    let command_is : app_of c.in_ok-command.field-0 ≡ reshard (start_kind (texts c.args.words.now)) = search rules in
     let words_are : map (λ word. word.now) c.as_slice.result.now ≡ codes "reshard" ∷ texts c.args.words.now =
     search rules in
     IfOk-weaker c.command_of-usage.result _ _ (λ usage command. command_rehearses _ _
@@ -116,7 +116,7 @@ returns-in-Ok-clause-rehearses c = λ rehearsal.
 
 pub returns-clause-asked : goal.returns-clause-asked
 returns-clause-asked c =
-    let command_is : app_of c.in_ok-command.field-0 ≡ reshard (names_cluster (texts c.args.words.now)) = search rules in
+    let command_is : app_of c.in_ok-command.field-0 ≡ reshard (start_kind (texts c.args.words.now)) = search rules in
     let words_are : map (λ word. word.now) c.as_slice.result.now ≡ codes "reshard" ∷ texts c.args.words.now =
     search rules in
     let among = found (λ kinds. HasKind kinds c.in-Err.error) _ _ _ command_is words_are c.in-Err.ensures.kinds in
@@ -124,7 +124,7 @@ returns-clause-asked c =
 
 pub returns-clause-rehearses : goal.returns-clause-rehearses
 returns-clause-rehearses c = λ rehearsal.
-    let command_is : app_of c.in_ok-command.field-0 ≡ reshard (names_cluster (texts c.args.words.now)) = search rules in
+    let command_is : app_of c.in_ok-command.field-0 ≡ reshard (start_kind (texts c.args.words.now)) = search rules in
     let words_are : map (λ word. word.now) c.as_slice.result.now ≡ codes "reshard" ∷ texts c.args.words.now =
     search rules in
     let among = found (λ kinds. HasKind kinds c.in-Err.error) _ _ _ command_is words_are c.in-Err.ensures.kinds in

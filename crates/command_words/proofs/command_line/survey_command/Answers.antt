@@ -12,6 +12,7 @@ returns-clause-shape c =
     ∙ ap₂ ◌∷◌ c.cluster_option.ensures.rule
     (ap₂ ◌∷◌ c.expect_option.ensures.rule
     (ap₂ ◌∷◌ c.slots_flag.ensures.rule
-    (ap₂ ◌∷◌ c.keys_flag.ensures.rule (ap₂ ◌∷◌ c.stranded_flag.ensures.rule refl)))) in
+    (ap₂ ◌∷◌ c.keys_flag.ensures.rule
+    (ap₂ ◌∷◌ c.stranded_flag.ensures.rule (ap₂ ◌∷◌ c.full_flag.ensures.rule refl))))) in
     IfOk-weaker c.with_options.result _ _ (λ command is. ap (λ (a : App). a.top)
     (is ∙ ap₂ (fold with_rule) start_is rules_are)) c.with_options.ensures.app
