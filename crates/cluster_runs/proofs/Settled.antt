@@ -1,5 +1,5 @@
 -- What was settled before a run stays with what is made ready.
-use Rattle.std.proofs.Common.{◌≡◌, ◌∙◌, ℕ, List, [], Option, Result, Ok, Err, sym, ap, subst, subst₂}
+use Rattle.std.proofs.Common.{◌≡◌, ◌∙◌, ℕ, List, [], length, Option, Result, Ok, Err, sym, ap, subst, subst₂}
 use Rattle.std.specs.Prelude.{IfOk}
 use Rattle.byte_streams.specs.declared.memory.MemoryOut.{MemoryOut}
 use Rattle.cluster_admin.specs.Surveys.{Survey}
@@ -10,15 +10,17 @@ use Rattle.cluster_survey.specs.declared.finding.FoundCluster as found
 use Rattle.command_words.specs.declared.usage.ApplyWords.{ApplyWords}
 use Rattle.node_names.specs.Names.{Names}
 use Rattle.plan_language.specs.PlanView.{PlanView}
+use Rattle.plan_runner.specs.Verifying.{commands_of}
 use Rattle.server_commands.specs.declared.book.Server.{Server}
 use Rattle.server_links.specs.declared.link.Link as link
 use Rattle.server_runs.specs.declared.counts.Counts.{Counts}
 use Rattle.server_runs.specs.declared.run_log.RunLog.{RunLog}
 use Rattle.server_settling.specs.Asking.{Sends}
 use Rattle.server_shards.specs.Returning.{Asks, asks_of}
+use Rattle.transcripts.specs.OutcomeTexts.{verified_text}
 use Rattle.transcripts.specs.Writing.{Writes}
 use Rattle.cluster_runs.specs.Continuing.{IsReadyAgain}
-use Rattle.cluster_runs.specs.Preparing.{IsPreparedRest}
+use Rattle.cluster_runs.specs.Preparing.{IsPreparedRest, TellsCommands}
 use Rattle.cluster_runs.specs.Settings.{FileOut, Setting, streams_in}
 use Rattle.cluster_runs.specs.Settling.{IsSettledFrom, IsSettledRest, LogsLines}
 use Rattle.cluster_runs.specs.Targets.{AreTargetsEmpty}
@@ -83,3 +85,10 @@ ready_again {I} {O} {E} x g lines a log dead names before servers plan (Ok p) fo
   away = subst₂ (λ d n. AreAway (asks_of (streams_in x)) d n p.servers.left_out.items p.plan.plan.lines) d n
       (away_after (asks_of (streams_in x)) dead names before p plan is plans left away);
 }
+
+-- how many commands it stands for
+pub says_after : {I O : Type 0} (before after : prepared.Prepared I O) (text : List ℕ)
+    → (after.plan ≡ before.plan) × (after.survey ≡ before.survey) → TellsCommands before text
+    → TellsCommands after text
+says_after before after text same says =
+    subst₂ (λ p v. text ≡ verified_text (length (commands_of p v))) (ap (λ x. x.plan) (sym same.0)) (sym same.1) says

@@ -117,8 +117,9 @@ pub(crate) fn settled<H: Clock, I: ByteIn + Drop, O: ByteOut + Drop, E: ByteOut>
     } = prepared;
     let mut told = MemoryOut::new(system.alloc, usize::MAX);
     let settling = settle(system, servers, lines, attempt, &mut told);
-    tell(errors, told.bytes.as_slice());
-    let log = with_lines(system, log, told.bytes.as_slice());
+    let text = told.bytes.as_slice();
+    tell(errors, text);
+    let log = with_lines(system, log, text);
     let (servers, counts) = settling?;
     Ok(Prepared {
         servers,
