@@ -1,7 +1,6 @@
 -- Lines that are put into a log, one after the other.
-use Rattle.std.proofs.Common.{◌≡◌, ◌≢◌, ◌≤◌, ◌+◌, ℕ, List, [], ◌∷◌, ◌++◌, length, Option, None, Some, refl, sym, subst, inl, inr, arith}
-use Rattle.std.specs.Prelude.{IsTrue, take}
-use Rattle.byte_streams.specs.declared.memory.MemoryOut.{MemoryOut}
+use Rattle.std.proofs.Common.{◌≡◌, ◌≢◌, ◌≤◌, ◌+◌, ℕ, List, [], ◌∷◌, ◌++◌, length, Option, None, Some, Result, Ok, refl, sym, subst, inl, inr, arith}
+use Rattle.std.specs.Prelude.{IfOk, take, true}
 use Rattle.transcripts.specs.RunTexts.{time_text}
 use Rattle.server_runs.specs.RunLogs.{IsTimed, IsWritten, Logs}
 use Rattle.server_runs.specs.declared.run_log.RunLog.{RunLog}
@@ -36,9 +35,21 @@ logs_last took all [] first log few so = so log refl
 logs_last took all (part ∷ []) first log few so = so log refl
 logs_last took all (part ∷ (next ∷ more)) first log few so = absurd (omega (arith, few))
 
+-- a line that was made is written
+pub logs_line : {L E V : Type 0} (took : L → List ℕ → L → Type 0) (items : V → List ℕ) (text : List ℕ)
+    (log next : RunLog L) (made : Result V E) (line : V) (bytes : List ℕ) → made ≡ Ok line → bytes ≡ items line
+    → IfOk made (λ l. IsTimed text (items l)) → IsWritten took bytes log next → Logs took text (Some log) (Some next)
+logs_line took items text log next made line bytes is same timed wrote = (
+  next,
+  bytes,
+  refl,
+  subst (λ t. IsTimed text t) (sym same) (subst (λ r. IfOk r (λ l. IsTimed text (items l))) is timed),
+  wrote,
+)
+
 -- there was no memory for a line
 pub logs_nothing : {L : Type 0} (took : L → List ℕ → L → Type 0) (none : (x : L) → took x [] x) (text : List ℕ)
-    (log next : RunLog L) → IsTrue next.is_broken → next.writer ≡ log.writer → Logs took text (Some log) (Some next)
+    (log next : RunLog L) → next.is_broken ≡ true → next.writer ≡ log.writer → Logs took text (Some log) (Some next)
 logs_nothing {L} took none text log next broken same =
     let line : List ℕ = time_text [] ++ text in (
       next,

@@ -28,7 +28,7 @@ use cluster_survey::FoundCluster;
 use command_words::ApplyWords;
 use plan_runner::Plan;
 use server_links::{ServerInput, ServerOutput};
-use server_runs::Counts;
+use server_runs::{Counts, RunLog};
 use server_settling::SettleSetup;
 use std::alloc::AllocError;
 use std::fs::{File, Files};
@@ -143,8 +143,12 @@ fn with_lines<H: Clock>(system: &System<'_, H>, log: Option<Log>, text: &[u8]) -
 }
 
 /// The log with these lines at its end.
-fn with_each<H: Clock>(system: &System<'_, H>, log: Log, text: &[u8]) -> Log
-    ensures { LogsLines ⟦<StandardOut<File> as ByteOut>⟧.took text.now (Some log) (Some result) }
+fn with_each<H: Clock, L: ByteOut + Drop>(
+    system: &System<'_, H>,
+    log: RunLog<L>,
+    text: &[u8],
+) -> RunLog<L>
+    ensures { LogsLines L.took text.now (Some log) (Some result) }
 {
     let mut log = log;
     let mut lines = Parts::of(text, b'\n');
@@ -155,9 +159,9 @@ fn with_each<H: Clock>(system: &System<'_, H>, log: Log, text: &[u8]) -> Log
 }
 
 /// Writes the line, where there was memory for it.
-fn put_line(log: &mut Log, line: Result<Vec<u8>, AllocError>)
+fn put_line<L: ByteOut + Drop>(log: &mut RunLog<L>, line: Result<Vec<u8>, AllocError>)
     ensures { (text : List ℕ) → IfOk line (λ l. IsTimed text l.items)
-        → Logs ⟦<StandardOut<File> as ByteOut>⟧.took text (Some log.old) (Some log.new) }
+        → Logs L.took text (Some log.old) (Some log.new) }
 {
     match line {
         Ok(line) => log.write(line.as_slice()),
