@@ -14,12 +14,13 @@ use Rattle.cluster_cli.specs.Serving.{IsServedTo, IsUnserved}
 use Rattle.cluster_inspection.specs.Surveying.{SaysSomeSurvey, ShowsVersions, details_of}
 use Rattle.cluster_cli.specs.Verifying.{IsAnswered, IsNotVerified}
 use Rattle.cluster_inspection.specs.VerifyingAt.{VerifiesAt}
+use Rattle.cluster_inspection.specs.VerifyingFrom.{VerifiesPlainly}
 use Rattle.command_words.specs.Clusters.{IsAddressed, IsApply}
 use Rattle.command_words.specs.CommandLine.{AsksFor, HasWholeLines, IsDraining, IsRebalance, IsReshard, IsServe, Words}
 use Rattle.command_words.specs.Resuming.{IsResume}
 use Rattle.command_words.specs.Starts.{IsStart}
 use Rattle.command_words.specs.declared.usage.Start.{Start}
-use Rattle.command_words.specs.declared.usage.Start.TheVariants.{Cluster, Even}
+use Rattle.command_words.specs.declared.usage.Start.TheVariants.{Cluster, Even, Survey as BySurvey}
 use Rattle.command_words.specs.declared.usage.Usage.{Usage}
 use Rattle.command_words.specs.declared.usage.Usage.TheVariants.{Rehearse, Verify, Reshard, Rebalance}
 use Rattle.command_words.specs.declared.usage.Usage.TheVariants.{Serve, Survey, Apply, Resume, Explain, Drain}
@@ -87,10 +88,11 @@ IsUnread i = i.after ≡ i.before
 abbrev pub IsUnwritten : {W : Type 0} → Output W → Type 0
 IsUnwritten o = o.after ≡ o.before
 
--- a plan is verified by an even split, or at a cluster of servers
+-- a plan is verified by an even split, at a cluster of servers, or by its survey
 abbrev pub VerifiesFrom : {R W : Type 0} → Input R → Output W → (status : ℕ) → Start → Type 0
 VerifiesFrom i o status (Even s) = Verifies i o s status
 VerifiesFrom i o status (Cluster g) = VerifiesAt i o status
+VerifiesFrom i o status (BySurvey path) = VerifiesPlainly (BySurvey path) i o status
 
 -- by what the words ask for
 abbrev pub Does : {R W E : Type 0} → Input R → Output W → Output E → (status : ℕ) → Usage → Type 0
@@ -121,6 +123,7 @@ Does i o e status (Wrong text) = Shows e (string_bytes text) 2 status × IsUnrea
 abbrev pub StartsAtServers : Start → Type 0
 StartsAtServers (Even s) = ⊥
 StartsAtServers (Cluster g) = Unit {0}
+StartsAtServers (BySurvey path) = ⊥
 
 -- the words name a cluster of servers
 abbrev pub AsksServers : Usage → Type 0
