@@ -11,7 +11,7 @@ use Rattle.plan_changes.specs.Loads.{load_of}
 use Rattle.plan_changes.specs.declared.load.PlanLoad.{PlanLoad}
 use Rattle.transcripts.specs.RunTexts.{load_text}
 use Rattle.cluster_inspection.specs.Answers.{Tells}
-use Rattle.cluster_inspection.specs.Refusals.{TellsRefusal}
+use Rattle.cluster_inspection.specs.Refusals.{TellsRefusalOf}
 use Rattle.cluster_inspection.specs.Starts.{AreCleanOwners, names_listed}
 
 abbrev pub line_of : PlanLoad → List ℕ
@@ -39,4 +39,4 @@ SaysAt i status text =
 
 -- that is written, or why there is nothing to say of a plan
 abbrev pub VerifiesAt : {R W : Type 0} → Input R → Output W → (status : ℕ) → Type 0
-VerifiesAt i o status = Tells (SaysAt i) o status ⊎ TellsRefusal o status
+VerifiesAt i o status = Tells (SaysAt i) o status ⊎ TellsRefusalOf i o status

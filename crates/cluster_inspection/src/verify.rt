@@ -1,7 +1,7 @@
 //! The command that verifies a plan at a cluster of servers.
 ghost use Rattle.std.specs.Prelude.{◌≡◌, ℕ, List, IfErr, IfOk, length, vec_len};
 ghost use Rattle.byte_streams.specs.Inputs.{IsWholeInput};
-ghost use Rattle.cluster_inspection.specs.Refusals.{IsRefusal};
+ghost use Rattle.cluster_inspection.specs.Refusals.{IsRefusal, IsRefusalOf};
 ghost use Rattle.cluster_inspection.specs.Starts.{IsClean, IsNumberedBy, names_listed};
 ghost use Rattle.cluster_inspection.specs.VerifyingAt.{IsAnswerAt, SaysOfPlanAt, VerifiesAt};
 ghost use Rattle.command_words.specs.Clusters.{IsAddressed};
@@ -54,7 +54,8 @@ fn answer_at<
     R: ByteIn,
 >(system: &System<'_, H>, words: &ClusterWords, reader: &mut R) -> Result<Transcript, Refusal>
     requires { IsAddressed words.now }
-    ensures refusal { IfErr result IsRefusal }
+    ensures refusal { IfErr result (IsRefusalOf
+        (record { gave = R.gave; ends = R.ends; failures = R.failures; before = reader.old; after = reader.new })) }
     ensures says { IfOk result (λ t. (input : List ℕ) × IsWholeInput R.gave R.ends reader.old reader.new input
         × IsAnswerAt input t.status t.printed.items) }
 {

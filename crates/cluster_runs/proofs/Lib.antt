@@ -1,8 +1,9 @@
 pub mod Applied
-pub mod Attempts
 pub mod Closed
 pub mod Ended
+pub mod Logged
 pub mod Looked
 pub mod RestPlans
+pub mod Resumed
 pub mod Settled
-pub mod Unfound
+pub mod Verified

@@ -38,7 +38,7 @@ few g i status text (inr refused) =
 pub undrawn : {R W E : Type 0} (start : Start) (i : Input R) (o : Output W) (e : Output E) (status : ℕ) (r : Refusal)
     → o.after ≡ o.before → IsUnshown start i r → IsToldTo r e status → Draws start i o e status
 undrawn start i o e status refusal.Memory same why told = inr (told.0, same, inr (inl told.1))
-undrawn start i o e status refusal.Unread same why told = inr (told.0, same, inr (inr told.1))
+undrawn start i o e status refusal.Unread same why told = inr (told.0, same, inr (inr (told.1, why)))
 undrawn start i o e status (refusal.Answer t) same why (inl whole) =
     inr (whole.0 ∙ why_one start i t why, same, inl (t, why, inl whole.1))
 undrawn start i o e status (refusal.Answer t) same why (inr partly) =

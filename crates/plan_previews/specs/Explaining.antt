@@ -2,6 +2,7 @@
 use Rattle.std.specs.Prelude.{◌≡◌, ◌⊎◌, ℕ, Bool, true, false, List, ◌∷◌, ◌++◌, codes}
 use Rattle.byte_streams.specs.Streams.{Input, Output}
 use Rattle.cluster_inspection.specs.Answers.{Tells}
+use Rattle.cluster_inspection.specs.Refusals.{FailsToRead}
 use Rattle.command_words.specs.declared.usage.ExplainWords.{ExplainWords}
 use Rattle.plan_json.specs.Values.{line_of, outline_data}
 use Rattle.plan_pages.specs.Pages.{page_text}
@@ -25,9 +26,10 @@ SaysExplained g i status text =
     ⊎ ((t : Transcript) × TellsWhy g.start i t × (status ≡ 1) × (text ≡ refused_text g.json t.printed.items))
 
 -- memory ran out, which is told as far as it can be; or the plan could not be read, and nothing is told
-abbrev pub TellsNothing : {W : Type 0} → Output W → (status : ℕ) → Type 0
-TellsNothing o status = (status ≡ 1)
-    × (Writes o.took o.failures (codes "out of memory\n") o.before o.after ⊎ (o.after ≡ o.before))
+abbrev pub TellsNothing : {R W : Type 0} → Input R → Output W → (status : ℕ) → Type 0
+TellsNothing i o status = (status ≡ 1)
+    × (Writes o.took o.failures (codes "out of memory\n") o.before o.after
+    ⊎ ((o.after ≡ o.before) × FailsToRead i))
 
 abbrev pub Explains : {R W : Type 0} → ExplainWords → Input R → Output W → (status : ℕ) → Type 0
-Explains g i o status = Tells (SaysExplained g i) o status ⊎ TellsNothing o status
+Explains g i o status = Tells (SaysExplained g i) o status ⊎ TellsNothing i o status

@@ -2,7 +2,7 @@
 use Rattle.std.specs.Prelude.{◌≡◌, ◌⊎◌, ℕ, List, [], ◌++◌, Option, None, Some, Ok, length}
 use Rattle.byte_streams.specs.Inputs.{IsWholeInput}
 use Rattle.byte_streams.specs.Streams.{Input}
-use Rattle.cluster_inspection.specs.Refusals.{TellsNoPlan, plan_from}
+use Rattle.cluster_inspection.specs.Refusals.{FailsToRead, TellsNoPlan, plan_from}
 use Rattle.cluster_inspection.specs.Starts.{AreCleanOwners, SaysNoStart, SaysUnstarted, StartsFrom}
 use Rattle.cluster_inspection.specs.Starts.{names_listed}
 use Rattle.cluster_inspection.specs.VerifyingAt.{line_of}
@@ -107,5 +107,5 @@ TellsWhy start i t =
 -- that is the answer, memory ran out, or the plan could not be read
 abbrev pub IsUnshown : {R : Type 0} → Start → Input R → Refusal → Type 0
 IsUnshown start i refusal.Memory = Unit {0}
-IsUnshown start i refusal.Unread = Unit {0}
+IsUnshown start i refusal.Unread = FailsToRead i
 IsUnshown start i (refusal.Answer t) = TellsWhy start i t

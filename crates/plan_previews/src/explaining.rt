@@ -1,5 +1,7 @@
 //! The command that explains a plan.
-ghost use Rattle.std.specs.Prelude.{◌≡◌, IfOk, false, true};
+ghost use Rattle.std.specs.Prelude.{◌≡◌, IfErr, IfOk, false, true};
+ghost use Rattle.byte_streams.specs.declared.reading.Unread.TheVariants as unread;
+ghost use Rattle.cluster_inspection.specs.Refusals.{FailsToRead};
 ghost use Rattle.command_words.specs.Starts.{IsStart};
 ghost use Rattle.plan_previews.specs.Explaining.{Explains, SaysExplained, explained_text};
 
@@ -44,9 +46,11 @@ fn explanation<
     R: ByteIn,
 >(system: &System<'_, H>, words: &ExplainWords, reader: &mut R) -> Result<Transcript, Unread>
     requires { IsStart words.now.start }
-    ensures { IfOk result (λ t. SaysExplained words.now
+    ensures answer { IfOk result (λ t. SaysExplained words.now
         (record { gave = R.gave; ends = R.ends; failures = R.failures; before = reader.old; after = reader.new })
         t.status t.printed.items) }
+    ensures unread { IfErr result (λ e. e ≡ unread.Failed → FailsToRead
+        (record { gave = R.gave; ends = R.ends; failures = R.failures; before = reader.old; after = reader.new })) }
 {
     match preview_from(system, &words.start, reader) {
         Ok(preview) => Ok(explained(system.alloc, &preview, words.json)?),

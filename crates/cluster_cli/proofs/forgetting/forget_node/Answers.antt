@@ -14,10 +14,12 @@ returns-in-Ok-Some g c =
     planned says (ForgetNamesNone c.args.words.now) g.W.ByteOut.took g.W.ByteOut.failures g.E.ByteOut.took
     g.E.ByteOut.failures c.args.writer.now c.args.errors.now [] c.report.new.writer c.args.errors.now c.report.result
     (told (λ s u. says s u []) g.W.ByteOut.took g.W.ByteOut.failures t.status t.printed.items c.args.writer.now
-    c.report.new.writer c.report.result
-    (subst (λ (o : Option Transcript). MatchOption o (NamesNoNode c.args.words.now)
-    (λ x. IsForgetAnswer c.args.words.now x.status x.printed.items))
-    c.in-Ok-Some.field-0-is c.in-Ok-Some.ensures.says, refl)
+    c.report.new.writer c.report.result (
+      subst (λ (o : Option Transcript). MatchOption o (NamesNoNode c.args.words.now)
+          (λ x. IsForgetAnswer c.args.words.now x.status x.printed.items))
+          c.in-Ok-Some.field-0-is c.in-Ok-Some.ensures.says,
+      refl,
+    )
     (subst (λ (o : Option Transcript). IfSome o (λ x. x.status ≤ 1)) c.in-Ok-Some.field-0-is
     c.in-Ok-Some.ensures.status)
     c.report.ensures.reported)
@@ -26,10 +28,11 @@ returns-in-Ok-Some g c =
 pub returns-in-Ok-None : goal.returns-in-Ok-None
 returns-in-Ok-None g c =
     not_planned (ForgetSays c.args.words.now) (ForgetNamesNone c.args.words.now) g.W.ByteOut.took g.W.ByteOut.failures
-    g.E.ByteOut.took g.E.ByteOut.failures c.args.writer.now c.args.errors.now _ c.misuse.new.errors c.misuse.result
-    (subst (λ (o : Option Transcript). MatchOption o (NamesNoNode c.args.words.now)
-    (λ x. IsForgetAnswer c.args.words.now x.status x.printed.items)) c.in-Ok-None.field-0-is c.in-Ok-None.ensures.says,
-    refl)
+    g.E.ByteOut.took g.E.ByteOut.failures c.args.writer.now c.args.errors.now _ c.misuse.new.errors c.misuse.result (
+      subst (λ (o : Option Transcript). MatchOption o (NamesNoNode c.args.words.now)
+          (λ x. IsForgetAnswer c.args.words.now x.status x.printed.items)) c.in-Ok-None.field-0-is c.in-Ok-None.ensures.says,
+      refl,
+    )
     (subst (λ (t : List ℕ). IsMisused (record {
       took = g.E.ByteOut.took;
       failures = g.E.ByteOut.failures;

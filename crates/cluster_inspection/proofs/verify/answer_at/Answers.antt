@@ -1,6 +1,17 @@
-use Rattle.cluster_inspection.proofs.Started.{no_cluster_refusal}
+use Rattle.cluster_inspection.proofs.Started.{no_cluster_refusal, refusal_of, refusals_of}
+use Rattle.cluster_inspection.proofs.Unfound.{refused_unfound}
 use Rattle.cluster_inspection.proofs.verify.answer_at.Goals as goal
+
+pub returns-in_err-servers-clause-refusal : goal.returns-in_err-servers-clause-refusal
+returns-in_err-servers-clause-refusal g c =
+    refusals_of _ c.from_residual-in_err-servers.result
+    (refused_unfound c.in_err-servers.field-0.0 c.from_residual-in_err-servers.result c.in_err-servers.ensures.unfound
+    c.from_residual-in_err-servers.ensures.1)
 
 pub returns-then-not-is_clean-clause-refusal : goal.returns-then-not-is_clean-clause-refusal
 returns-then-not-is_clean-clause-refusal g c =
-    no_cluster_refusal c.in_ok-open_slots.field-0 c.from.result c.in_ok-open_slots.ensures c.from.ensures
+    refusal_of _ c.from.result
+    (no_cluster_refusal c.in_ok-open_slots.field-0 c.from.result c.in_ok-open_slots.ensures c.from.ensures)
+
+pub returns-clause-refusal : goal.returns-clause-refusal
+returns-clause-refusal g c = refusals_of _ c.answer_of.result c.answer_of.ensures.refusal

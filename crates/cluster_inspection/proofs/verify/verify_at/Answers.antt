@@ -20,4 +20,4 @@ returns-in-Ok g c =
     says (few says.0 c.in-Ok.answer.status c.in-Ok.answer.printed.items says.2) c.report.ensures.reported)
 
 pub returns-in-Err : goal.returns-in-Err
-returns-in-Err g c = inr c.report_refusal.ensures
+returns-in-Err g c = inr (c.in-Err.refusal, c.in-Err.ensures.refusal, c.report_refusal.ensures)

@@ -1,10 +1,12 @@
-use Rattle.std.proofs.Common.{inl, refl}
+use Rattle.std.proofs.Common.{◌∙◌, inl, inr, refl}
 use Rattle.cluster_inspection.specs.Starts.{owners_told}
 use Rattle.cluster_inspection.proofs.CleanOwners.{clean_owners}
+use Rattle.cluster_runs.proofs.Applied.{runs_as}
+use Rattle.cluster_runs.proofs.Ended.{ends_run}
 use Rattle.cluster_runs.proofs.apply.apply_plan.Goals as goal
 
-pub returns-in-Ok : goal.returns-in-Ok
-returns-in-Ok g c =
+pub returns-in-Ok-clause-applies : goal.returns-in-Ok-clause-applies
+returns-in-Ok-clause-applies g c =
     let read = c.in-Ok.ensures.read in
     let ready = c.in-Ok.ensures.prepared in
     let v = c.in-Ok.prepared.servers.surveyed.survey in
@@ -13,5 +15,38 @@ returns-in-Ok g c =
       c.in-Ok.count.printed.items,
       read.1,
       (owners_told v, c.in-Ok.plan, clean_owners _ _ v _ _ _ ready.found ready.numbered ready.clean refl, read.2, c.in-Ok.ensures.says),
-      c.run.ensures,
+      runs_as _ _ c.in-Ok.count.printed.items _ c.run.result
+          (ends_run _ _ _ c.args.words.now c.new-attempt.result c.in-Ok.prepared c.in-Ok.plan) c.run.ensures,
     )
+
+pub returns-in-Ok-clause-asked : goal.returns-in-Ok-clause-asked
+returns-in-Ok-clause-asked g c =
+    let read = c.in-Ok.ensures.read in
+    let new = c.new-attempt.ensures in
+    inl (record {
+      input = read.0;
+      read = read.1;
+      plan = c.in-Ok.plan;
+      is = read.2;
+      attempt = c.new-attempt.result;
+      first = record {
+        timeout = new.timeout;
+        batch = new.batch ∙ c.batch_of.ensures.keys;
+        commands = new.commands;
+        patience = new.patience;
+        waited = new.waited;
+      };
+      ready = c.in-Ok.prepared;
+      prepared = c.in-Ok.ensures.prepared;
+      expected = c.in-Ok.ensures.expected;
+      away = c.in-Ok.ensures.away;
+      count = c.in-Ok.count.printed.items;
+      says = c.in-Ok.ensures.says;
+      runs = c.run.ensures;
+    })
+
+pub returns-in-Err-clause-applies : goal.returns-in-Err-clause-applies
+returns-in-Err-clause-applies g c = inr (c.in-Err.refusal, c.in-Err.ensures.refusal, c.report_refusal.ensures)
+
+pub returns-in-Err-clause-asked : goal.returns-in-Err-clause-asked
+returns-in-Err-clause-asked g c = inr (c.in-Err.refusal, c.in-Err.ensures.refusal, c.report_refusal.ensures)

@@ -1,0 +1,47 @@
+-- What is left of a plan: it closes open slots, and continues with the moves of lines.
+use Rattle.std.specs.Prelude.{◌≡◌, ℕ, List, [], Option, None, Some, Ok, codes, length}
+use Rattle.cluster_admin.specs.Surveys.{Survey}
+use Rattle.plan_language.specs.PlanView.{PlanView}
+use Rattle.plan_language.specs.Texts.{any_plan_of_text}
+use Rattle.plan_language.specs.declared.line.Line.{Line}
+use Rattle.cluster_inspection.specs.Naming.{named}
+use Rattle.plan_runner.specs.Verifying.{IsVerified, commands_of}
+use Rattle.cluster_survey.specs.Found.{IsFound}
+use Rattle.server_commands.specs.declared.book.Server.{Server}
+use Rattle.server_phases.specs.Opened.{IsOpened}
+use Rattle.server_phases.specs.Resumed.{IsResumed}
+use Rattle.transcripts.specs.OutcomeTexts.{verified_text}
+use Rattle.cluster_inspection.specs.Starts.{IsNumberedBy, names_listed}
+
+-- the lines are those of a plan of the file that is named, or none where no file is
+abbrev pub AreLinesOf : {A : Type 0} → (file : Option A) → PlanView → Type 0
+AreLinesOf None lines = lines ≡ record { version = 1; names = None; lines = [] }
+AreLinesOf (Some path) lines = (text : List ℕ) × (any_plan_of_text text ≡ Ok lines)
+
+-- what is said of lines that may move a slot more than once: the version that a plan with or without names has else
+abbrev pub moved_again_text : {A : Type 0} → (names : Option A) → List ℕ
+moved_again_text None = codes "only a plan of version 1, which moves each slot once, can be continued"
+moved_again_text (Some names) = codes "only a plan of version 4, which moves each slot once, can be continued"
+
+-- this is how the model sees a cluster of these servers that was found, with its open slots
+abbrev pub Stands : List Server → Survey → Type 0
+Stands b v = (shown : Survey) × (epochs : List ℕ) × (links : ℕ) × IsFound b shown epochs links × IsOpened shown v
+
+-- the plan closes the open slots by so many keys at a time, and makes the moves that are left of these lines; where it
+-- lists nodes, it has the names of their servers
+abbrev pub IsNamedRest : List Server → Survey → (batch : ℕ) → List Line → PlanView → Type 0
+IsNamedRest b v batch lines plan = (p : PlanView) × IsResumed v batch lines p × (plan ≡ named b p)
+
+-- so it is of such a cluster, whose nodes are numbered by the names of these lines
+abbrev pub IsLeft : (batch : ℕ) → (lines : PlanView) → Survey → PlanView → Type 0
+IsLeft batch lines v plan = (b : List Server) × Stands b v × IsNumberedBy (names_listed lines) b
+    × IsNamedRest b v batch lines.lines plan
+
+-- such a plan is legal over the survey, and this says how many commands it stands for
+abbrev pub IsOpenCount : (batch : ℕ) → (lines : PlanView) → (text : List ℕ) → Type 0
+IsOpenCount batch lines text = (v : Survey) × (plan : PlanView) × IsLeft batch lines v plan × IsVerified plan v
+    × (text ≡ verified_text (length (commands_of plan v)))
+
+-- such a plan has no command
+abbrev pub IsNothingLeft : (batch : ℕ) → (lines : PlanView) → Type 0
+IsNothingLeft batch lines = (v : Survey) × (plan : PlanView) × IsLeft batch lines v plan × (plan.lines ≡ [])
