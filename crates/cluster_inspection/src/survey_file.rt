@@ -1,5 +1,5 @@
 //! The survey of a cluster in a file, in place of the servers.
-ghost use Rattle.std.specs.Prelude.{◌≡◌, ◌++◌, IfErr, IfOk, codes};
+ghost use Rattle.std.specs.Prelude.{◌≡◌, ◌++◌, IfErr, IfOk, OnOk, codes};
 ghost use Rattle.cluster_inspection.specs.Starts.{AreOwnersIn, IsNoFile, IsUnsurveyed, TellsNoSurvey, unread_reason};
 ghost use Rattle.survey_files.specs.Faults.{fault_text};
 ghost use Rattle.survey_files.specs.Surveys.{IsSurveyIn};
@@ -37,10 +37,16 @@ fn unread(alloc: Global, path: &str, why: &str) -> Result<NoCluster, AllocError>
     ensures { IfOk result (IsUnsurveyed (unread_reason path.now why.now)) }
 {
     let mut reason = Vec::new(alloc);
-    put(&mut reason, path.as_bytes())?;
-    put(&mut reason, b" could not be read: ")?;
-    put(&mut reason, why.as_bytes())?;
+    put_unread(&mut reason, path, why)?;
     unsurveyed(alloc, reason.as_slice())
+}
+
+fn put_unread(out: &mut Vec<u8>, path: &str, why: &str) -> Result<(), AllocError>
+    ensures { OnOk result (out.new.items ≡ out.old.items ++ unread_reason path.now why.now) }
+{
+    put(out, path.as_bytes())?;
+    put(out, b" could not be read: ")?;
+    put(out, why.as_bytes())
 }
 
 /// The owners of the survey that the text is, and its servers.
