@@ -4,7 +4,7 @@ use Rattle.std.proofs.Common.{◌∙◌, inl, inr, arith, ◌⊎◌, Result, Ok,
 use Rattle.byte_texts.specs.Outcomes.{◌>>=◌}
 use Rattle.byte_texts.specs.Parts.{parts}
 use Rattle.byte_texts.specs.Words.{is}
-use Rattle.std.specs.Prelude.{codes}
+use Rattle.std.specs.Prelude.{MatchResult, codes}
 use Rattle.survey_files.specs.Faults.{IsFaultOf}
 use Rattle.survey_files.specs.Reading.{Told, ended, line_told, lines_told, range_told, ranges_told}
 use Rattle.survey_files.specs.Lines.{range_of_parts}
@@ -24,6 +24,12 @@ stopped first e f (inr fault) = inr (ap (λ r. r >>= f) fault)
 pub fault_along : {A : Type 0} (r r' : Result A FileFault) (e : FileFault) → r ≡ r' → IsFaultOf r' e → IsFaultOf r e
 fault_along r r' e is (inl memory) = inl memory
 fault_along r r' e is (inr fault) = inr (is ∙ fault)
+
+-- what is said of a result says more
+pub match_weaker : {A E : Type 0} (r : Result A E) (P P' : A → Type 0) (Q Q' : E → Type 0) → ((a : A) → P a → P' a)
+    → ((e : E) → Q e → Q' e) → MatchResult r P Q → MatchResult r P' Q'
+match_weaker (Ok a) P P' Q Q' f g h = f a h
+match_weaker (Err e) P P' Q Q' f g h = g e h
 
 -- the line is not what stands after the last line feed
 pub as_line : (line : ℕ) (t : List ℕ) (more : List (List ℕ)) (told : Told) → ((length t ≡ 0) → (more ≡ []) → ⊥)

@@ -235,7 +235,6 @@ impl Reading {
     }
 
     /// Lets the server at the place be the node, and the node's server stand in its place.
-    #[tactic(auto, using(crate::proofs::Numbered::exchanged_named))]
     fn place_at(&mut self, alloc: Global, place: NodeId, node: NodeId) -> Result<(), FileFault>
         requires place { place < length self.old.servers.items }
         requires node { node < length self.old.servers.items }
