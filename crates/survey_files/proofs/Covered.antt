@@ -1,6 +1,6 @@
 -- Slots that all have owners.
 use Rattle.std.proofs.Common.{◌≡◌, ℕ, zero, suc, ◌+◌, ◌<◌, ◌≤◌, Bool, true, false, cond, List, [], ◌∷◌, length, get_or}
-use Rattle.std.proofs.Common.{Option, None, Some, is_none, position, refl, sym, subst, ap, ◌∙◌, arith}
+use Rattle.std.proofs.Common.{Option, None, Some, is_none, position, refl, sym, subst, ◌∙◌, arith}
 use Rattle.std.specs.List.{All, position_from}
 use Rattle.std.specs.Option.{IsSomeAnd, option_or}
 use Rattle.std.proofs.lemmas.Iterator.Adapters.{position_from-zero}

@@ -1,13 +1,11 @@
 -- The lines of a survey, one after the other.
-use Rattle.std.proofs.Common.{◌≡◌, ℕ, ◌+◌, Bool, true, false, cond, List, [], ◌∷◌, ◌++◌, length, Option, None, Some, refl, sym, ap}
-use Rattle.std.proofs.Common.{◌∙◌, inl, inr, arith, ◌⊎◌, Result, Ok, Err}
+use Rattle.std.proofs.Common.{◌≡◌, ℕ, ◌+◌, Bool, true, false, cond, List, [], ◌∷◌, length, refl, ap}
+use Rattle.std.proofs.Common.{◌∙◌, inl, inr, arith, Result, Ok, Err}
 use Rattle.byte_texts.specs.Outcomes.{◌>>=◌}
-use Rattle.byte_texts.specs.Parts.{parts}
 use Rattle.byte_texts.specs.Words.{is}
 use Rattle.std.specs.Prelude.{MatchResult, codes}
 use Rattle.survey_files.specs.Faults.{IsFaultOf}
-use Rattle.survey_files.specs.Reading.{Told, ended, line_told, lines_told, range_told, ranges_told}
-use Rattle.survey_files.specs.Lines.{range_of_parts}
+use Rattle.survey_files.specs.Reading.{Told, ended, line_told, lines_told}
 use Rattle.survey_files.specs.declared.file_fault.FileFault.{FileFault}
 use Rattle.survey_files.specs.declared.file_fault.FileFault.TheVariants.{NoEnd}
 

@@ -1,9 +1,9 @@
 -- The lines of a survey, as it is printed with the ranges of the slots of each master.
-use Rattle.std.specs.Prelude.{ℕ, ◌+◌, ◌-◌, Bool, cond, ◌&&◌, ◌||◌, nat_eq, nat_le, nat_lt, List, [], ◌∷◌, length, take, drop}
+use Rattle.std.specs.Prelude.{ℕ, ◌+◌, ◌-◌, Bool, cond, ◌||◌, nat_eq, nat_le, nat_lt, List, [], ◌∷◌, length, take, drop}
 use Rattle.std.specs.Prelude.{Option, None, Some, codes}
 use Rattle.std.specs.List.{list_any, starts_with}
 use Rattle.byte_texts.specs.Decimals.{number_in}
-use Rattle.byte_texts.specs.Parts.{parts, split_once}
+use Rattle.byte_texts.specs.Parts.{split_once}
 use Rattle.byte_texts.specs.Words.{is}
 use Rattle.key_slots.specs.Numbers.{node_among, slot_in}
 use Rattle.listed_nodes.specs.Names.{if_there, is_name}

@@ -37,9 +37,7 @@ impl Drop for Reading {
 }
 
 impl Reading {
-    ghost use Rattle.std.specs.Prelude.{◌≡◌, ◌<◌, ◌≤◌, ◌-◌, ◌==◌, IfSome, MatchResult, Ok, Some, false, length, nat_lt};
-    ghost use Rattle.std.specs.Prelude.{vec_len};
-    ghost use Rattle.std.specs.List.{All};
+    ghost use Rattle.std.specs.Prelude.{◌≡◌, ◌-◌, ◌==◌, IfSome, MatchResult, Ok, Some, false, length, nat_lt};
     ghost use Rattle.byte_texts.specs.Parts.{parts};
     ghost use Rattle.survey_files.specs.Faults.{IsFaultOf};
     ghost use Rattle.survey_files.specs.Lines.{master_with};

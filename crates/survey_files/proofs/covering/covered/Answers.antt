@@ -1,4 +1,4 @@
-use Rattle.std.proofs.Common.{◌≡◌, ◌<◌, ℕ, List, Option, None, Some, is_none, length, get_or, inr, refl, subst, sym, ap, ◌∙◌}
+use Rattle.std.proofs.Common.{◌≡◌, ◌<◌, ℕ, List, Option, None, is_none, get_or, inr, refl, subst, sym, ap, ◌∙◌}
 use Rattle.std.proofs.Common.{position}
 use Rattle.std.specs.Option.{IsSomeAnd}
 use Rattle.survey_files.specs.Covering.{AreOwners}
