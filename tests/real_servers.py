@@ -254,7 +254,7 @@ def plans(it):
         ran = it.run("plan-drain", *cluster, "--from", "n0,n1,n2")
         it.has_printed(ran, 1, "refused: 7 NoTarget", "a drain of all masters")
         ran = it.run("plan-drain", *cluster, "--from", "n3")
-        text = "error: --from and --to are nodes as n0,n2, and each is below --nodes\n"
+        text = "error: --from: 'n3' is no node of the cluster, which has n0 to n2\n"
         it.check("a drain of an unknown node", (ran.status, ran.out, ran.err) == (2, "", text), ran)
         weights_by_name(it, cluster)
         before = servers.moves()
