@@ -29,7 +29,7 @@ use Rattle.plan_pages.specs.Runs.{again_heading, back_heading, fits, gap, more_r
 use Rattle.plan_pages.specs.Runs.{runs_text}
 use Rattle.plan_pages.specs.Servers.{address_line, figures_line, id_line, keys_told, limit_told, memory_told}
 use Rattle.plan_pages.specs.Servers.{server_lines, servers_heading, servers_section}
-use Rattle.plan_pages.specs.Sizes.{limit_size, size_text, sizes_line, used_line}
+use Rattle.plan_pages.specs.Sizes.{limit_size, size_text, sizes_line, sizes_of, used_line}
 use Rattle.plan_pages.specs.Stops.{open_words, stand_word, stop_heading, stop_section}
 use Rattle.plan_pages.specs.Widths.{AreCounts, HasDigits, HasNumbers, HasRoom, IsLoad, IsNode, IsPair, IsRange, IsRun}
 use Rattle.plan_pages.specs.Widths.{PagesAreNarrow}
@@ -387,19 +387,23 @@ module _ (w : ℕ) (wide : 80 ≤ w) where
   limit_size_long d (Some (suc m)) is =
       two_long (codes " of at most ") (size_text (suc m)) 12 23 (omega arith) (size_long (suc m) is.1)
 
-  used_narrow : (d : ℕ) (used limit : Option ℕ) → IfSome used (HasDigits d) → IfSome limit (HasDigits d) → 80 ≤ w
-      → AreLines w (used_line used limit)
+  used_narrow : (d m : ℕ) (limit : Option ℕ) → HasDigits d m → IfSome limit (HasDigits d) → 80 ≤ w
+      → AreLines w (used_line m limit)
   unfolding used_line
-  used_narrow d None limit is bound wide = no_lines w
-  used_narrow d (Some m) limit is bound wide =
+  used_narrow d m limit is bound wide =
       one_line w
       (put_before w (codes "     ") 5 (omega arith)
       (put_before w (size_text m) 23 (size_long m is.1)
       (put_before w (codes " used") 5 (omega arith)
       (put_before w (limit_size limit) 35 (limit_size_long d limit bound) ended)))) (omega (arith, wide))
 
+  sizes_of_narrow : (d : ℕ) (used limit : Option ℕ) → IfSome used (HasDigits d) → IfSome limit (HasDigits d) → 80 ≤ w
+      → AreLines w (sizes_of used limit)
+  sizes_of_narrow d None limit is bound wide = no_lines w
+  sizes_of_narrow d (Some m) limit is bound wide = used_narrow d m limit is bound wide
+
   sizes_narrow : (s : NodeServer) → HasRoom w s → AreLines w (sizes_line s)
-  sizes_narrow s has = used_narrow has.digits s.used_memory s.max_memory has.used has.limit wide
+  sizes_narrow s has = sizes_of_narrow has.digits s.used_memory s.max_memory has.used has.limit wide
 
   address_narrow : (s : NodeServer) → HasRoom w s → AreLines w (address_line s)
   unfolding address_line

@@ -14,10 +14,14 @@ limit_size None = []
 limit_size (Some zero) = []
 limit_size (Some (suc m)) = codes " of at most " ++ size_text (suc m)
 
--- `     1205 KB used of at most 1953 KB`, where the server tells what it uses
-unfoldable pub used_line : (used limit : Option ℕ) → List ℕ
-used_line None limit = []
-used_line (Some m) limit = codes "     " ++ (size_text m ++ (codes " used" ++ (limit_size limit ++ 10 ∷ [])))
+-- `     1205 KB used of at most 1953 KB`
+unfoldable pub used_line : (used : ℕ) → (limit : Option ℕ) → List ℕ
+used_line m limit = codes "     " ++ (size_text m ++ (codes " used" ++ (limit_size limit ++ 10 ∷ [])))
+
+-- where the server tells what it uses
+abbrev pub sizes_of : (used limit : Option ℕ) → List ℕ
+sizes_of None limit = []
+sizes_of (Some m) limit = used_line m limit
 
 abbrev pub sizes_line : NodeServer → List ℕ
-sizes_line s = used_line s.used_memory s.max_memory
+sizes_line s = sizes_of s.used_memory s.max_memory

@@ -25,7 +25,7 @@ pub(crate) fn put_sizes(out: &mut Vec<u8>, server: &NodeServer) -> Result<(), Me
 
 #[tactic(auto, unfolding(crate::specs::Sizes::used_line))]
 fn put_used(out: &mut Vec<u8>, used: u64, limit: Option<u64>) -> Result<(), Memory>
-    ensures text { OnOk result (out.new.items ≡ out.old.items ++ used_line (Some used) limit) }
+    ensures text { OnOk result (out.new.items ≡ out.old.items ++ used_line used limit) }
     ensures few { OnOk result (length out.new.items ≤ length out.old.items + 80) }
 {
     put(out, b"     ")?;
