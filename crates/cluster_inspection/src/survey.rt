@@ -1,5 +1,5 @@
 //! The command that surveys a cluster of servers.
-ghost use Rattle.std.specs.Prelude.{⊤, ◌≡◌, ◌≤◌, ◌⊎◌, ◌↔◌, IfOk, vec_len};
+ghost use Rattle.std.specs.Prelude.{⊤, ◌≡◌, ◌≤◌, ◌⊎◌, ◌↔◌, ◌||◌, IfOk, vec_len};
 ghost use Rattle.cluster_inspection.specs.Answers.{Tells};
 ghost use Rattle.cluster_inspection.specs.Looking.{LooksIfClean, Surveys};
 ghost use Rattle.cluster_inspection.specs.Starts.{IsClean, SaysNoStart};
@@ -72,9 +72,16 @@ fn details_of(words: &SurveyWords) -> Details
     ensures { result ≡ details_of words.now }
 {
     Details {
-        slots: words.slots || words.full,
+        slots: lists_slots(words),
         keys: words.keys,
     }
+}
+
+/// Whether the ranges of slots are printed.
+fn lists_slots(words: &SurveyWords) -> bool
+    ensures { result ≡ (words.now.slots || words.now.full) }
+{
+    words.slots || words.full
 }
 
 /// Looks for stranded keys after a survey with this status, if the words ask for them and it is clean. The cluster is
