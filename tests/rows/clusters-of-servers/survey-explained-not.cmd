@@ -1,0 +1,1 @@
+explain --json --survey survey-slot-twice.survey
