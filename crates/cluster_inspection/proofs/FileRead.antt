@@ -1,6 +1,6 @@
 -- What is told where the file of a survey has none, or a plan is refused by it.
-use Rattle.std.proofs.Common.{◌≡◌, ◌≤◌, ℕ, List, Option, None, Some, inl, inr, refl, subst, sym, arith}
-use Rattle.std.specs.Prelude.{MatchOption, string_bytes}
+use Rattle.std.proofs.Common.{◌≡◌, ◌≤◌, ℕ, List, Option, None, Some, Ok, Err, inl, inr, refl, subst, sym, arith}
+use Rattle.std.specs.Prelude.{IfErr, IsErrAnd, MatchOption, Result}
 use Rattle.command_words.specs.declared.usage.Start.{Start}
 use Rattle.command_words.specs.declared.usage.Start.TheVariants.{Cluster, Even, Survey}
 use Rattle.key_slots.specs.Owners.{Owners}
@@ -28,6 +28,11 @@ no_survey_file path names text none.Memory told = tt
 no_survey_file path names text (none.Answer t) (f, no_survey, told) =
     (told.0, (_, told.1, inr (names, text, f, no_survey, refl)))
 
+pub no_survey_files : {T : Type 0} (path : List ℕ) (names : Names) (text : List ℕ) (r : Result T NoCluster)
+    → IfErr r (TellsNoSurvey names text) → IfErr r (IsNoFile path)
+no_survey_files path names text (Ok x) told = tt
+no_survey_files path names text (Err u) told = no_survey_file path names text u told
+
 -- ---- nothing to start from
 
 pub unstarted_refusal : (start : Start) (u : NoCluster) (r : Refusal) → IsUnstarted start u → IsNoClusterOf u r → IsRefusal r
@@ -36,6 +41,11 @@ unstarted_refusal (Even s) (none.Answer t) r why is = absurd why
 unstarted_refusal (Cluster g) (none.Answer t) r why is = subst IsRefusal (sym is) (inl why)
 unstarted_refusal (Survey path) (none.Answer t) r why is =
     subst IsRefusal (sym is) (inl (why.0, inr (why.1.0, why.1.1)))
+
+pub refused_unstarted : {T : Type 0} (start : Start) (u : NoCluster) (r : Result T Refusal) → IsUnstarted start u
+    → IsErrAnd r (IsNoClusterOf u) → IfErr r IsRefusal
+refused_unstarted start u (Ok x) why is = absurd is
+refused_unstarted start u (Err e) why is = unstarted_refusal start u e why is
 
 -- ---- what is said of a plan
 

@@ -1,5 +1,5 @@
 //! The survey of a cluster in a file, in place of the servers.
-ghost use Rattle.std.specs.Prelude.{◌≡◌, ◌++◌, IfErr, IfOk, OnOk, codes};
+ghost use Rattle.std.specs.Prelude.{◌≡◌, ◌++◌, IfErr, IfOk, codes};
 ghost use Rattle.cluster_inspection.specs.Starts.{AreOwnersIn, IsNoFile, IsUnsurveyed, TellsNoSurvey, unread_reason};
 ghost use Rattle.survey_files.specs.Faults.{fault_text};
 ghost use Rattle.survey_files.specs.Surveys.{IsSurveyIn};
@@ -12,7 +12,6 @@ use server_commands::ServerBook;
 use std::alloc::{AllocError, Global};
 use std::fs::{self, File, Files};
 use survey_files::{FileFault, FileSurvey, survey_in};
-use survey_texts::put;
 
 /// The owners of the survey in the file, and its servers, numbered by the names.
 pub(crate) fn owners_in_file<H: Files<File = File> + AllocGlobal>(
@@ -36,17 +35,8 @@ pub(crate) fn owners_in_file<H: Files<File = File> + AllocGlobal>(
 fn unread(alloc: Global, path: &str, why: &str) -> Result<NoCluster, AllocError>
     ensures { IfOk result (IsUnsurveyed (unread_reason path.now why.now)) }
 {
-    let mut reason = Vec::new(alloc);
-    put_unread(&mut reason, path, why)?;
-    unsurveyed(alloc, reason.as_slice())
-}
-
-fn put_unread(out: &mut Vec<u8>, path: &str, why: &str) -> Result<(), AllocError>
-    ensures { OnOk result (out.new.items ≡ out.old.items ++ unread_reason path.now why.now) }
-{
-    put(out, path.as_bytes())?;
-    put(out, b" could not be read: ")?;
-    put(out, why.as_bytes())
+    let reason = format!(in alloc; "{path} could not be read: {why}")?;
+    unsurveyed(alloc, reason.as_bytes())
 }
 
 /// The owners of the survey that the text is, and its servers.
