@@ -14,8 +14,8 @@ use Rattle.cluster_runs.specs.Targets.{AreTargetsEmpty}
 use Rattle.cluster_runs.specs.declared.attempt.Attempt.{Attempt}
 use Rattle.cluster_runs.specs.declared.prepared.Prepared as prepared
 
--- The cluster is as `--expect` has it, its open slots are settled, the slots that are still to move have no key at their
--- targets, no failed master may take a slot of one of them, and the log continues this one.
+-- The cluster is as `--expect` has it, its open slots are settled, the slots that are still to move have no key at
+-- their targets, no failed master may take a slot of one of them, and the log continues this one.
 pub record IsReadyAgain {I O E : Type 0} (x : Setting I O E) (g : ApplyWords) (lines : PlanView)
     (a : Attempt) (log : Option (RunLog FileOut)) (r : prepared.Prepared I O) : Type 0 where
   pub prepared : IsPreparedRest a.batch lines r
