@@ -13,6 +13,7 @@ order:
   killed       such a plan is killed in the middle, a master joins whose address stands before all others, and the plan
                is resumed: its nodes keep their numbers by their names
   renumbered   a plan that is older than a master is verified, drawn, explained and applied by the names of its nodes
+  surveyed     plans of 33 masters, made, verified and explained by the file of a survey as at the cluster
   names        plans that name no masters of the cluster, and faults of the lines that name them
   few          plans of few nodes at many masters, and what a cluster of more than 255 masters is told
   in_one_go    once a slot's target and source were told, all others are told in one go: what fails among these, and a
@@ -38,7 +39,7 @@ from hash_slots import SLOTS, even_split  # noqa: E402
 from parts import Parts, plan_of, wait_until  # noqa: E402
 from servers import keys_in  # noqa: E402
 
-FIRST_PORT, MASTERS = 18_100, 10
+FIRST_PORT, MASTERS, SURVEYED = 18_100, 10, 33
 FRONT = 1
 SPARE_PORTS = 6
 TIMEOUT = 20_000
@@ -214,6 +215,33 @@ def renumbered(it):
         has_moved(it, servers, wanted, "applied by its names")
         undone = it.run("apply", *at, plan=new)
         it.check("the other plan is no more legal", undone.status == 1 and "2 NotOwner" in undone.out, undone)
+
+
+# ---- a survey in a file
+
+
+@part
+def surveyed(it):
+    timeout = ["--cluster-node-timeout", str(TIMEOUT)]
+    with it.servers(nodes=SURVEYED, owners=even_split(SURVEYED - 1), first=SPARE_PORTS, more=timeout) as servers:
+        it.check("the servers agree", servers.agree())
+        cluster, path = ["--cluster", servers.address(0)], it.folder / "survey"
+        ran = it.run("survey", "--full", *cluster)
+        it.check("a full survey", (ran.status, ran.out.splitlines()[-1]) == (0, "clean"), ran)
+        path.write_text(ran.out)
+        by_file, plan = ["--survey", path], ""
+        for words in [["plan-drain", "--from", "n0"], ["plan-rebalance", "--use-empty"]]:
+            plans = [it.run(*words, *start) for start in (by_file, cluster)]
+            told, plan = plans[0], plans[1].out
+            it.check(f"{words[0]} by the file", (told.status, told.out) == (0, plan), told)
+        for words in [["verify"], ["explain"], ["draw"]]:
+            told, wanted = (it.run(*words, *start, plan=plan).out for start in (by_file, cluster))
+            same = told == wanted if words == ["draw"] else told.splitlines()[:1] == wanted.splitlines()[:1]
+            it.check(f"{words[0]} by the file", told and same, told[-200:])
+        swapped = ran.out.replace(servers.ids[0], "x").replace(servers.ids[1], servers.ids[0]).replace("x", servers.ids[1])
+        path.write_text(swapped)
+        told = it.run("verify", *by_file, plan=plan)
+        it.check("the names of the plan count", told.status == 1 and "2 NotOwner" in told.out, told)
 
 
 # ---- plans that are refused
@@ -537,4 +565,4 @@ def options(reader):
 
 
 if __name__ == "__main__":
-    sys.exit(PARTS.main(__doc__, FIRST_PORT, options, lambda given: 2 * given.masters + 2 + SPARE_PORTS))
+    sys.exit(PARTS.main(__doc__, FIRST_PORT, options, lambda given: 2 * max(given.masters, SURVEYED) + 2 + SPARE_PORTS))

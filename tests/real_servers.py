@@ -14,6 +14,7 @@ Without a PART all are tried, in this order:
   plans        plans for a cluster as it is, and what they are said to move
   shown        plans explained and drawn for a cluster as it is, and what is there, with a slot in mid-move
   counts       the keys of all slots, each asked for once
+  from_a_survey  plans made, verified, explained and drawn by the file of a survey, as at the cluster that it is of
   moves        1,000 slots with 100,000 keys move beside four clients, of whom every reply is compared
   kinds        keys of all bytes, values of all kinds, and keys whose time is limited
   replicas     a cluster of which one node has a replica
@@ -389,6 +390,44 @@ def a_slot_drawn(it, servers, cluster, plan):
     it.has_printed(it.run("resume", *cluster), 0, r"done \d+ commands", "the slot is closed")
     ran = it.run("draw", "--now", *cluster)
     it.check("then no slot is open", ran.status == 0 and "slot 24: from" not in ran.out, ran)
+
+
+@part
+def from_a_survey(it):
+    with it.servers() as servers:
+        it.check("the servers agree", servers.agree())
+        servers.put(keys_in([24, 25, 8000], 20))
+        cluster, path = ["--cluster", servers.address(1)], it.folder / "survey"
+        ran = it.run("survey", "--full", "--keys", *cluster)
+        it.check("a full survey has the ranges of slots", ran.status == 0 and "\n  slots 0-5460\n" in ran.out, ran)
+        path.write_text(ran.out)
+        by_file = ["--survey", path]
+        for words in [
+            ["plan-reshard", "--from", "n0,n2", "--to", "n1", "--slots", 100],
+            ["plan-rebalance", "--weights", "n0=2", "--batch", 100],
+            ["plan-drain", "--from", "n2"],
+        ]:
+            told, wanted = (it.run(*words, *start) for start in (by_file, cluster))
+            it.check(f"{words[0]} by the file", (told.status, told.out, told.err) == (0, wanted.out, ""), told)
+        plan = plan_of("move 24-25 from n0 to n1 by 10", "move 8000 from n1 to n2 by 100")
+        is_previewed(it, cluster, by_file, plan)
+        lines = path.read_text().replace("  slots 0-5460\n", "  slots 0-5461\n").replace("5461 slots", "5462 slots", 1)
+        path.write_text(lines)
+        text = "survey refused: --survey: slot 5461 is listed at n0 and again at n1"
+        it.has_printed(it.run("verify", *by_file, plan=plan), 1, text, "a slot of two nodes")
+
+
+def is_previewed(it, cluster, by_file, plan):
+    """A plan is verified, explained and drawn by the file as at the cluster, but for keys."""
+    told, wanted = (it.run("verify", *start, plan=plan) for start in (by_file, cluster))
+    it.check("verified by the file", (told.status, told.out) == (0, wanted.out.splitlines(True)[0]), told)
+    told, wanted = (it.run("draw", *start, plan=plan) for start in (by_file, cluster))
+    it.check("drawn by the file", (told.status, told.out, told.err) == (0, wanted.out, ""), told)
+    told, wanted = (explained(it, start, plan) for start in (by_file, cluster))
+    for member in ("verdict", "commands", "moves", "counts", "moved_again", "most_open", "resume"):
+        it.check(f"explained by the file: {member}", told[member] == wanted[member], told)
+    slots = [[(pair["source"], pair["target"], pair["slots"]) for pair in each["pairs"]] for each in (told, wanted)]
+    it.check("the pairs, without keys", slots[0] == slots[1] and "keys" not in told["pairs"][0], told)
 
 
 # ---- plans that run to their end

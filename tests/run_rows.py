@@ -3,11 +3,11 @@
 
 usage: tests/run_rows.py PROGRAM [THEME[/NAME] ..]     all rows, where none is named
 
-A row NAME, in the folder of its theme, has the files NAME.cmd (the words after the program's name), NAME.in (standard
-input) or NAME.in.py (a script that prints it), NAME.out (standard output, byte for byte) and, where they are not 0 and
-nothing, NAME.status (the exit status) and NAME.err (standard error, byte for byte). Each difference is printed. The
-last line is 'N passed, M failed', and the status is 1 where a row failed. Where the program is not there, or a theme or
-a row that is named, nothing runs and the status is 2."""
+A row NAME, in the folder of its theme, where it runs, has the files NAME.cmd (the words after the program's name),
+NAME.in (standard input) or NAME.in.py (a script that prints it), NAME.out (standard output, byte for byte) and, where
+they are not 0 and nothing, NAME.status (the exit status) and NAME.err (standard error, byte for byte). Each difference
+is printed. The last line is 'N passed, M failed', and the status is 1 where a row failed. Where the program is not
+there, or a theme or a row that is named, nothing runs and the status is 2."""
 
 import pathlib
 import shlex
@@ -51,7 +51,7 @@ def differences(program, row):
     words = shlex.split(row.read_text())
     status = int(bytes_of(row.with_suffix(".status")) or b"0")
     try:
-        ran = subprocess.run([program, *words], input=input_of(row), capture_output=True, timeout=SECONDS)
+        ran = subprocess.run([program, *words], input=input_of(row), capture_output=True, timeout=SECONDS, cwd=row.parent)
     except subprocess.TimeoutExpired:
         return [f"  still running after {SECONDS} seconds"]
     except (OSError, subprocess.CalledProcessError) as error:

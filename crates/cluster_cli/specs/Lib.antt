@@ -1,9 +1,12 @@
 pub mod ByName
 pub mod DrainedNodes
 pub mod Forgetting
+pub mod Misnaming
 pub mod NodeLists
 pub mod Planning
+pub mod Remarks
 pub mod Running
+pub mod Said
 pub mod Serving
 pub mod SlotCounts
 pub mod Verifying

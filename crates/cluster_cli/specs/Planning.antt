@@ -1,15 +1,15 @@
 -- What is said of a plan that is asked for, and what of that is written.
 use Rattle.std.specs.Prelude.{◌≡◌, ◌≢◌, ◌≤◌, ◌⊎◌, ℕ, List, [], ◌++◌, Option, Some, None, codes, Ok, Err}
 pub use Rattle.cluster_cli.specs.DrainedNodes.{drain_named}
+pub use Rattle.cluster_cli.specs.Misnaming.{misnamed_drain, misnamed_nodes, misnamed_weights}
 pub use Rattle.cluster_cli.specs.NodeLists.{nodes_named}
+pub use Rattle.cluster_cli.specs.Remarks.{drain_remark, outcome_of, rebalance_remark, reshard_remark}
 pub use Rattle.cluster_cli.specs.SlotCounts.{slots_asked}
 pub use Rattle.cluster_cli.specs.WeightsByName.{weights_asked}
 use Rattle.byte_streams.specs.Streams.{Output}
 use Rattle.command_words.specs.declared.usage.DrainWords.{DrainWords}
 use Rattle.command_words.specs.declared.usage.RebalanceWords.{RebalanceWords}
 use Rattle.command_words.specs.declared.usage.ReshardWords.{ReshardWords}
-use Rattle.command_words.specs.declared.usage.Start.{Start}
-use Rattle.command_words.specs.declared.usage.Start.TheVariants.{Cluster, Even}
 use Rattle.key_slots.specs.Owners.{Owners}
 use Rattle.cluster_inspection.specs.Faults.{naming_fault_text}
 use Rattle.cluster_inspection.specs.Naming.{IsUnnamed, named}
@@ -22,22 +22,6 @@ use Rattle.server_commands.specs.declared.book.Server.{Server}
 use Rattle.transcripts.specs.OutcomeTexts.{refused_text}
 use Rattle.cluster_inspection.specs.Answers.{IsNotWritten, IsWritten}
 use Rattle.cluster_inspection.specs.Starts.{SaysUnstarted, StartsFrom}
-
--- ---- what is reported where the words name no such nodes, or no such weights
-
-abbrev pub misnamed_nodes : List ℕ
-misnamed_nodes = codes "error: --from is all or nodes as n0,n2, --to is a node as n1, and each is below --nodes\n"
-
-abbrev pub misnamed_drain : List ℕ
-misnamed_drain = codes "error: --from and --to are nodes as n0,n2, and each is below --nodes\n"
-
--- by where the plan starts: at a cluster of servers nodes may be named
-abbrev pub misnamed_weights : Start → List ℕ
-misnamed_weights (Even s) =
-    codes "error: --weights is one weight for each of --nodes, 0 to 1000, with commas between them\n"
-misnamed_weights (Cluster g) =
-    codes "error: --weights is one weight for each node, 0 to 1000, as 2,1,1, or the weights of some, "
-    ++ codes "each node once, as n1=0,n2=2\n"
 
 -- ---- what is said, and the status of that
 
@@ -57,48 +41,57 @@ abbrev pub SaysPlanned : (nodes : ℕ) → (book : Option (List Server)) → Ans
 SaysPlanned n book (Ok lines) status text = SaysPlan book (first_version n lines) status text
 SaysPlanned n book (Err f) status text = (status ≡ 1) × (text ≡ refused_text (planner_fault_text f))
 
--- by the table of the slots' owners where the plan starts, or why there is none
-abbrev pub IsReshardAnswer : ReshardWords → (status : ℕ) → (text : List ℕ) → Type 0
-IsReshardAnswer g status text = SaysUnstarted g.start status text
+-- by the table of the slots' owners where the plan starts, or why there is none; and what is remarked of it
+abbrev pub reshard_answers : ReshardWords → Owners → (sources : List ℕ) → (target : ℕ) → Answer
+reshard_answers g o sources target = reshard_answer o sources target (slots_asked g.slots sources o.owners) g.batch
+
+abbrev pub IsReshardAnswer : ReshardWords → (status : ℕ) → (text remark : List ℕ) → Type 0
+IsReshardAnswer g status text remark = (SaysUnstarted g.start status text × (remark ≡ []))
     ⊎ ((o : Owners) × (book : Option (List Server)) × (sources : List ℕ) × (target : ℕ) × StartsFrom g.start [] book o
     × (nodes_named o.nodes g ≡ Some (sources, target))
-    × SaysPlanned o.nodes book (reshard_answer o sources target (slots_asked g.slots sources o.owners) g.batch) status
-    text)
+    × SaysPlanned o.nodes book (reshard_answers g o sources target) status text
+    × (remark ≡ reshard_remark (outcome_of (reshard_answers g o sources target)) sources o.owners))
 
-abbrev pub IsRebalanceAnswer : RebalanceWords → (status : ℕ) → (text : List ℕ) → Type 0
-IsRebalanceAnswer g status text = SaysUnstarted g.start status text
+abbrev pub rebalance_answers : RebalanceWords → Owners → (weights : List ℕ) → Answer
+rebalance_answers g o weights = rebalance_answer o weights g.threshold g.use_empty g.batch
+
+abbrev pub IsRebalanceAnswer : RebalanceWords → (status : ℕ) → (text remark : List ℕ) → Type 0
+IsRebalanceAnswer g status text remark = (SaysUnstarted g.start status text × (remark ≡ []))
     ⊎ ((o : Owners) × (book : Option (List Server)) × (weights : List ℕ) × StartsFrom g.start [] book o
     × (weights_asked o.nodes g ≡ Some weights)
-    × SaysPlanned o.nodes book (rebalance_answer o weights g.threshold g.use_empty g.batch) status text)
+    × SaysPlanned o.nodes book (rebalance_answers g o weights) status text
+    × (remark ≡ rebalance_remark (outcome_of (rebalance_answers g o weights)) g.use_empty o))
 
-abbrev pub IsDrainAnswer : DrainWords → (status : ℕ) → (text : List ℕ) → Type 0
-IsDrainAnswer g status text = SaysUnstarted g.start status text
+abbrev pub IsDrainAnswer : DrainWords → (status : ℕ) → (text remark : List ℕ) → Type 0
+IsDrainAnswer g status text remark = (SaysUnstarted g.start status text × (remark ≡ []))
     ⊎ ((o : Owners) × (book : Option (List Server)) × (sources : List ℕ) × (targets : List ℕ)
     × StartsFrom g.start [] book o × (drain_named o.nodes g ≡ Some (sources, targets))
-    × SaysPlanned o.nodes book (drain_answer o sources targets g.batch) status text)
+    × SaysPlanned o.nodes book (drain_answer o sources targets g.batch) status text
+    × (remark ≡ drain_remark (outcome_of (drain_answer o sources targets g.batch))))
 
--- the words name no nodes of the cluster, or not a weight for each
-abbrev pub NamesNoNodes : ReshardWords → Type 0
-NamesNoNodes g =
-    (o : Owners) × (book : Option (List Server)) × StartsFrom g.start [] book o × (nodes_named o.nodes g ≡ None)
+-- the words name no nodes of the cluster, or not a weight for each, and this is reported
+abbrev pub NamesNoNodes : ReshardWords → (report : List ℕ) → Type 0
+NamesNoNodes g report = (o : Owners) × (book : Option (List Server)) × StartsFrom g.start [] book o
+    × (nodes_named o.nodes g ≡ None) × (report ≡ misnamed_nodes o.nodes g)
 
-abbrev pub NamesNoDrain : DrainWords → Type 0
-NamesNoDrain g =
-    (o : Owners) × (book : Option (List Server)) × StartsFrom g.start [] book o × (drain_named o.nodes g ≡ None)
+abbrev pub NamesNoDrain : DrainWords → (report : List ℕ) → Type 0
+NamesNoDrain g report = (o : Owners) × (book : Option (List Server)) × StartsFrom g.start [] book o
+    × (drain_named o.nodes g ≡ None) × (report ≡ misnamed_drain o.nodes g)
 
-abbrev pub NamesNoWeights : RebalanceWords → Type 0
-NamesNoWeights g =
-    (o : Owners) × (book : Option (List Server)) × StartsFrom g.start [] book o × (weights_asked o.nodes g ≡ None)
+abbrev pub NamesNoWeights : RebalanceWords → (report : List ℕ) → Type 0
+NamesNoWeights g report = (o : Owners) × (book : Option (List Server)) × StartsFrom g.start [] book o
+    × (weights_asked o.nodes g ≡ None) × (report ≡ misnamed_weights o.nodes g)
 
 -- ---- what is written
 
--- Such an answer is written, unless the words are misnamed, which is reported by this text.
-pub record Plans {W E : Type 0} (says : (status : ℕ) → (text : List ℕ) → Type 0) (misnamed : Type 0) (report : List ℕ)
-    (o : Output W) (e : Output E) (status : ℕ) : Type 0 where
+-- Such an answer is written, and its remark on standard error; unless the words are misnamed, which is reported.
+pub record Plans {W E : Type 0} (says : (status : ℕ) → (text remark : List ℕ) → Type 0)
+    (misnamed : (report : List ℕ) → Type 0) (o : Output W) (e : Output E) (status : ℕ) : Type 0 where
   pub few : status ≤ 2
-  pub planned : status ≡ 0 → IsWritten says o 0 × (o.failures o.after ≡ o.failures o.before)
-  pub refused : status ≡ 1 → IsWritten says o 1 ⊎ (IsNotWritten says o
-      ⊎ (misnamed × (o.after ≡ o.before) × (e.failures e.after ≢ e.failures e.before)))
-  pub reported : status ≡ 2 → misnamed × (o.after ≡ o.before) × e.took e.before report e.after
-      × (e.failures e.after ≡ e.failures e.before)
-  pub silent : status ≢ 2 → e.failures e.after ≡ e.failures e.before → e.after ≡ e.before
+  pub remark : List ℕ
+  pub planned : status ≡ 0 → IsWritten (λ s t. says s t remark) o 0 × (o.failures o.after ≡ o.failures o.before)
+  pub refused : status ≡ 1 → IsWritten (λ s t. says s t remark) o 1 ⊎ (IsNotWritten (λ s t. says s t remark) o
+      ⊎ ((report : List ℕ) × misnamed report × (o.after ≡ o.before) × (e.failures e.after ≢ e.failures e.before)))
+  pub reported : status ≡ 2 → (report : List ℕ) × misnamed report × (o.after ≡ o.before)
+      × e.took e.before report e.after × (e.failures e.after ≡ e.failures e.before)
+  pub remarked : status ≢ 2 → e.failures e.after ≡ e.failures e.before → e.took e.before remark e.after

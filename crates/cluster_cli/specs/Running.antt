@@ -6,27 +6,27 @@ use Rattle.cluster_inspection.specs.Stranded.{SaysSomeStranded}
 use Rattle.cluster_runs.specs.Applying.{Applies}
 use Rattle.cluster_inspection.specs.Environment.{fault_text}
 use Rattle.cluster_inspection.specs.declared.credentials.CredentialFault.{CredentialFault}
-use Rattle.cluster_cli.specs.Forgetting.{misnamed_node}
+use Rattle.cluster_cli.specs.Forgetting.{ForgetNamesNone, ForgetSays}
 use Rattle.cluster_cli.specs.Planning.{IsDrainAnswer, IsRebalanceAnswer, IsReshardAnswer, NamesNoDrain, NamesNoNodes}
-use Rattle.cluster_cli.specs.Planning.{NamesNoWeights, Plans, misnamed_drain, misnamed_nodes, misnamed_weights}
+use Rattle.cluster_cli.specs.Planning.{NamesNoWeights, Plans}
 use Rattle.cluster_runs.specs.Resuming.{Resumes}
 use Rattle.cluster_cli.specs.Serving.{IsServedTo, IsUnserved}
 use Rattle.cluster_inspection.specs.Surveying.{SaysSomeSurvey, ShowsVersions, details_of}
 use Rattle.cluster_cli.specs.Verifying.{IsAnswered, IsNotVerified}
 use Rattle.cluster_inspection.specs.VerifyingAt.{VerifiesAt}
+use Rattle.cluster_inspection.specs.VerifyingFrom.{VerifiesPlainly}
 use Rattle.command_words.specs.Clusters.{IsAddressed, IsApply}
 use Rattle.command_words.specs.CommandLine.{AsksFor, HasWholeLines, IsDraining, IsRebalance, IsReshard, IsServe, Words}
 use Rattle.command_words.specs.Resuming.{IsResume}
 use Rattle.command_words.specs.Starts.{IsStart}
 use Rattle.command_words.specs.declared.usage.Start.{Start}
-use Rattle.command_words.specs.declared.usage.Start.TheVariants.{Cluster, Even}
+use Rattle.command_words.specs.declared.usage.Start.TheVariants.{Cluster, Even, Survey as BySurvey}
 use Rattle.command_words.specs.declared.usage.Usage.{Usage}
 use Rattle.command_words.specs.declared.usage.Usage.TheVariants.{Rehearse, Verify, Reshard, Rebalance}
 use Rattle.command_words.specs.declared.usage.Usage.TheVariants.{Serve, Survey, Apply, Resume, Explain, Drain}
 use Rattle.command_words.specs.declared.usage.Usage.TheVariants.{Forget, Draw, DrawNow, Help, Wrong}
 use Rattle.command_words.specs.declared.usage.ServeWords.{ServeWords}
 use Rattle.command_words.specs.declared.sizes.Sizes.{Sizes}
-use Rattle.node_forgetting.specs.Forgetting.{IsForgetAnswer, NamesNoNode}
 use Rattle.plan_previews.specs.Drawing.{Draws}
 use Rattle.plan_previews.specs.Explaining.{Explains}
 use Rattle.plan_previews.specs.Now.{DrawsNow}
@@ -88,19 +88,20 @@ IsUnread i = i.after ≡ i.before
 abbrev pub IsUnwritten : {W : Type 0} → Output W → Type 0
 IsUnwritten o = o.after ≡ o.before
 
--- a plan is verified by an even split, or at a cluster of servers
+-- a plan is verified by an even split, at a cluster of servers, or by its survey
 abbrev pub VerifiesFrom : {R W : Type 0} → Input R → Output W → (status : ℕ) → Start → Type 0
 VerifiesFrom i o status (Even s) = Verifies i o s status
 VerifiesFrom i o status (Cluster g) = VerifiesAt i o status
+VerifiesFrom i o status (BySurvey path) = VerifiesPlainly (BySurvey path) i o status
 
 -- by what the words ask for
 abbrev pub Does : {R W E : Type 0} → Input R → Output W → Output E → (status : ℕ) → Usage → Type 0
 Does i o e status Rehearse = Rehearses i o status × IsUnwritten e
 Does i o e status (Verify start) = VerifiesFrom i o status start × IsUnwritten e
 Does i o e status (Reshard g) =
-    Plans (IsReshardAnswer g) (NamesNoNodes g) misnamed_nodes o e status × IsUnread i
+    Plans (IsReshardAnswer g) (NamesNoNodes g) o e status × IsUnread i
 Does i o e status (Rebalance g) =
-    Plans (IsRebalanceAnswer g) (NamesNoWeights g) (misnamed_weights g.start) o e status × IsUnread i
+    Plans (IsRebalanceAnswer g) (NamesNoWeights g) o e status × IsUnread i
 Does i o e status (Serve g) = Serves i o g status × (status ≡ 0 → IsUnwritten e)
 Does i o e status (Survey g) =
     Surveys (SaysSomeSurvey (details_of g) (ShowsVersions e)) SaysSomeStranded g o status × IsUnread i
@@ -109,9 +110,9 @@ Does i o e status (Apply g) = Applies g.plan i o status
 Does i o e status (Resume g) = Resumes g o status × IsUnread i
 Does i o e status (Explain g) = Explains g i o status × IsUnwritten e
 Does i o e status (Drain g) =
-    Plans (IsDrainAnswer g) (NamesNoDrain g) misnamed_drain o e status × IsUnread i
+    Plans (IsDrainAnswer g) (NamesNoDrain g) o e status × IsUnread i
 Does i o e status (Forget g) =
-    Plans (IsForgetAnswer g) (NamesNoNode g) misnamed_node o e status × IsUnread i
+    Plans (ForgetSays g) (ForgetNamesNone g) o e status × IsUnread i
 Does i o e status (Draw start) = Draws start i o e status
 Does i o e status (DrawNow g) = DrawsNow o e status × IsUnread i
 Does i o e status (Help text) = Shows o (string_bytes text) 0 status × IsUnread i × IsUnwritten e
@@ -122,6 +123,7 @@ Does i o e status (Wrong text) = Shows e (string_bytes text) 2 status × IsUnrea
 abbrev pub StartsAtServers : Start → Type 0
 StartsAtServers (Even s) = ⊥
 StartsAtServers (Cluster g) = Unit {0}
+StartsAtServers (BySurvey path) = ⊥
 
 -- the words name a cluster of servers
 abbrev pub AsksServers : Usage → Type 0

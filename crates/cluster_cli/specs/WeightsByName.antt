@@ -6,7 +6,7 @@ use Rattle.byte_texts.specs.Decimals.{number_in}
 use Rattle.byte_texts.specs.Parts.{parts, split_once}
 use Rattle.command_words.specs.declared.usage.RebalanceWords.{RebalanceWords}
 use Rattle.command_words.specs.declared.usage.Start.{Start}
-use Rattle.command_words.specs.declared.usage.Start.TheVariants.{Cluster, Even}
+use Rattle.command_words.specs.declared.usage.Start.TheVariants.{Cluster, Even, Survey}
 use Rattle.cluster_cli.specs.NodeLists.{node_of, weights_named}
 
 -- a node of the cluster and its weight, by what stands before a `=` and after it
@@ -37,10 +37,11 @@ weights_of_some nodes text =
 
 -- ---- what a command asks for
 
--- by name at a cluster of servers alone
+-- by name at a cluster of servers or from a survey
 abbrev pub weights_by_name : (nodes : ℕ) → Start → Option (List ℕ) → Option (List ℕ)
 weights_by_name nodes (Even s) text = None
 weights_by_name nodes (Cluster g) text = option_and_then (weights_of_some nodes) text
+weights_by_name nodes (Survey path) text = option_and_then (weights_of_some nodes) text
 
 -- one for each node as they are listed, or 1; or by name
 abbrev pub weights_asked : (nodes : ℕ) → RebalanceWords → Option (List ℕ)

@@ -1,8 +1,7 @@
 //! The command by which a cluster forgets a node.
-ghost use Rattle.cluster_cli.specs.Forgetting.{misnamed_node};
+ghost use Rattle.cluster_cli.specs.Forgetting.{ForgetNamesNone, ForgetSays};
 ghost use Rattle.cluster_cli.specs.Planning.{Plans};
 ghost use Rattle.command_words.specs.Clusters.{IsAddressed};
-ghost use Rattle.node_forgetting.specs.Forgetting.{IsForgetAnswer, NamesNoNode};
 
 use crate::misuse::misuse;
 use byte_streams::ByteOut;
@@ -27,7 +26,7 @@ pub fn forget_node<
     E: ByteOut,
 >(system: &System<'_, H>, words: &ForgetWords, writer: &mut W, errors: &mut E) -> u8
     requires { IsAddressed words.now.cluster }
-    ensures { Plans (IsForgetAnswer words.now) (NamesNoNode words.now) misnamed_node
+    ensures { Plans (ForgetSays words.now) (ForgetNamesNone words.now)
         (record { took = W.took; failures = W.failures; before = writer.old; after = writer.new })
         (record { took = E.took; failures = E.failures; before = errors.old; after = errors.new }) result }
 {

@@ -4,11 +4,14 @@
 mod drained_nodes;
 mod forgetting;
 mod laws;
+mod misnaming;
 mod misuse;
 mod named_nodes;
 mod node_lists;
 mod planning;
 mod program;
+mod remarks;
+mod said;
 mod service;
 mod slot_counts;
 mod verifying;

@@ -1,26 +1,30 @@
 //! The commands that print plans.
-ghost use Rattle.std.specs.Prelude.{◌≡◌, ◌≤◌, ◌⊎◌, ℕ, IfOk, IfSome, MatchOption, string_bytes};
+ghost use Rattle.std.specs.Prelude.{◌≡◌, ◌≢◌, ◌≤◌, ◌⊎◌, ℕ, Err, IfOk, string_bytes};
 ghost use Rattle.command_words.specs.CommandLine.{IsDraining, IsRebalance, IsReshard};
 ghost use Rattle.cluster_cli.specs.Planning.{IsDrainAnswer, IsRebalanceAnswer, IsReshardAnswer, NamesNoDrain};
 ghost use Rattle.cluster_cli.specs.Planning.{NamesNoNodes, NamesNoWeights, Plans, SaysPlan, SaysPlanned, SaysUnnamed};
-ghost use Rattle.cluster_cli.specs.Planning.{misnamed_drain, misnamed_nodes, misnamed_weights};
+ghost use Rattle.cluster_cli.specs.Said.{IsSaid};
 ghost use Rattle.cluster_inspection.specs.Faults.{naming_fault_text};
 ghost use Rattle.cluster_inspection.specs.Naming.{named};
 ghost use Rattle.plan_language.specs.Texts.{plan_text};
 ghost use Rattle.reshard_planner.specs.Answers.{Answer, Gives};
 ghost use Rattle.reshard_planner.specs.Faults.{planner_fault_text};
+ghost use Rattle.reshard_planner.specs.declared.planner_fault.PlannerFault.TheVariants.{Memory};
 ghost use Rattle.transcripts.specs.OutcomeTexts.{refused_text};
 
 use crate::drained_nodes::drain_named;
+use crate::misnaming::{misnamed_drain, misnamed_nodes, misnamed_weights};
 use crate::misuse::misuse;
 use crate::named_nodes::nodes_named;
+use crate::remarks::{drain_remark, outcome_of, rebalance_remark, reshard_remark};
+use crate::said::{Said, say};
 use crate::slot_counts::slots_asked;
 use crate::weights::weights_asked;
 use byte_streams::ByteOut;
 use cluster_inspection::{
-    NamingFault, NoCluster, System, named_plan, out_of_memory, owners_at_start, report,
+    NamingFault, NoCluster, System, named_plan, out_of_memory, owners_at_start,
 };
-use command_words::{DrainWords, RebalanceWords, ReshardWords, Start};
+use command_words::{DrainWords, RebalanceWords, ReshardWords};
 use plan_language::{Plan, print};
 use reshard_planner::{PlannerFault, drain, rebalance, reshard};
 use server_commands::ServerBook;
@@ -30,30 +34,23 @@ use std::net::{Net, TcpListener, TcpStream};
 use std::time::Clock;
 use transcripts::Transcript;
 
-/// What is reported of nodes that are not the cluster's.
-const MISNAMED_NODES: &str =
-    "error: --from is all or nodes as n0,n2, --to is a node as n1, and each is below --nodes\n";
-
-/// What is reported of nodes to drain, or to take their slots, that are not the cluster's.
-const MISNAMED_DRAIN: &str =
-    "error: --from and --to are nodes as n0,n2, and each is below --nodes\n";
-
 /// Prints the plan that moves so many slots to a node, or all that the sources own, or why there is none. The status is
 /// 0 with a plan; 1 without, where servers can't be surveyed, memory ran out or a write failed; and 2 where the words
-/// name no nodes of the cluster, which is reported on `errors`.
+/// name no nodes of the cluster, which is reported on `errors`. There it is also remarked that there is nothing to move,
+/// and how many slots the sources own, where that is not enough.
 pub fn plan_reshard<
     H: Net<Listener = TcpListener, Stream = TcpStream> + Clock + Files<File = File> + AllocGlobal,
     W: ByteOut,
     E: ByteOut,
 >(system: &System<'_, H>, words: &ReshardWords, writer: &mut W, errors: &mut E) -> u8
     requires { IsReshard words.now }
-    ensures { Plans (IsReshardAnswer words.now) (NamesNoNodes words.now) misnamed_nodes
+    ensures { Plans (IsReshardAnswer words.now) (NamesNoNodes words.now)
         (record { took = W.took; failures = W.failures; before = writer.old; after = writer.new })
         (record { took = E.took; failures = E.failures; before = errors.old; after = errors.new }) result }
 {
     match reshard_answer(system, words) {
-        Ok(Some(answer)) => report(&answer, writer),
-        Ok(None) => misuse(errors, MISNAMED_NODES.as_bytes()),
+        Ok(Said::Answer(answer, remark)) => say(&answer, remark.as_slice(), writer, errors),
+        Ok(Said::Misnamed(report)) => misuse(errors, report.as_slice()),
         Err(AllocError) => out_of_memory(writer),
     }
 }
@@ -66,13 +63,13 @@ pub fn plan_rebalance<
     E: ByteOut,
 >(system: &System<'_, H>, words: &RebalanceWords, writer: &mut W, errors: &mut E) -> u8
     requires { IsRebalance words.now }
-    ensures { Plans (IsRebalanceAnswer words.now) (NamesNoWeights words.now) (misnamed_weights words.now.start)
+    ensures { Plans (IsRebalanceAnswer words.now) (NamesNoWeights words.now)
         (record { took = W.took; failures = W.failures; before = writer.old; after = writer.new })
         (record { took = E.took; failures = E.failures; before = errors.old; after = errors.new }) result }
 {
     match rebalance_answer(system, words) {
-        Ok(Some(answer)) => report(&answer, writer),
-        Ok(None) => misuse(errors, misnamed_weights(&words.start).as_bytes()),
+        Ok(Said::Answer(answer, remark)) => say(&answer, remark.as_slice(), writer, errors),
+        Ok(Said::Misnamed(report)) => misuse(errors, report.as_slice()),
         Err(AllocError) => out_of_memory(writer),
     }
 }
@@ -85,71 +82,57 @@ pub fn plan_drain<
     E: ByteOut,
 >(system: &System<'_, H>, words: &DrainWords, writer: &mut W, errors: &mut E) -> u8
     requires { IsDraining words.now }
-    ensures { Plans (IsDrainAnswer words.now) (NamesNoDrain words.now) misnamed_drain
+    ensures { Plans (IsDrainAnswer words.now) (NamesNoDrain words.now)
         (record { took = W.took; failures = W.failures; before = writer.old; after = writer.new })
         (record { took = E.took; failures = E.failures; before = errors.old; after = errors.new }) result }
 {
     match drain_answer(system, words) {
-        Ok(Some(answer)) => report(&answer, writer),
-        Ok(None) => misuse(errors, MISNAMED_DRAIN.as_bytes()),
+        Ok(Said::Answer(answer, remark)) => say(&answer, remark.as_slice(), writer, errors),
+        Ok(Said::Misnamed(report)) => misuse(errors, report.as_slice()),
         Err(AllocError) => out_of_memory(writer),
-    }
-}
-
-/// What is reported of weights that are none, or not one for each node.
-fn misnamed_weights(start: &Start) -> &'static str
-    ensures { result.now ≡ misnamed_weights start.now }
-{
-    match start {
-        Start::Even(_) => {
-            "error: --weights is one weight for each of --nodes, 0 to 1000, with commas between them\n"
-        }
-        Start::Cluster(_) => {
-            "error: --weights is one weight for each node, 0 to 1000, as 2,1,1, or the weights of some, \
-             each node once, as n1=0,n2=2\n"
-        }
     }
 }
 
 /// What there is to say, unless the words name no nodes of the cluster.
 fn reshard_answer<
     H: Net<Listener = TcpListener, Stream = TcpStream> + Clock + Files<File = File> + AllocGlobal,
->(system: &System<'_, H>, words: &ReshardWords) -> Result<Option<Transcript>, AllocError>
+>(system: &System<'_, H>, words: &ReshardWords) -> Result<Said, AllocError>
     requires { IsReshard words.now }
-    ensures status { IfOk result (λ o. IfSome o (λ t. t.status ≤ 1)) }
-    ensures says { IfOk result (λ o. MatchOption o (NamesNoNodes words.now)
-        (λ t. IsReshardAnswer words.now t.status t.printed.items)) }
+    ensures { IfOk result (IsSaid (IsReshardAnswer words.now) (NamesNoNodes words.now)) }
 {
     let (owners, book) = match owners_at_start(system, &words.start, &[]) {
         Ok(found) => found,
         Err(NoCluster::Memory) => return Err(AllocError),
-        Err(NoCluster::Answer(answer)) => return Ok(Some(answer)),
+        Err(NoCluster::Answer(answer)) => return Ok(Said::Answer(answer, Vec::new(system.alloc))),
     };
-    let Some((sources, target)) = nodes_named(words, system.alloc, owners.nodes())? else {
-        return Ok(None);
+    let nodes = owners.nodes();
+    let Some((sources, target)) = nodes_named(words, system.alloc, nodes)? else {
+        return Ok(Said::Misnamed(misnamed_nodes(system.alloc, words, nodes)?));
     };
     let sources = sources.as_slice();
     let count = slots_asked(words.slots, &owners, sources);
     let planned = reshard(system.alloc, &owners, sources, target, count, words.batch);
-    Ok(Some(transcript_of(system.alloc, &book, planned)?))
+    let outcome = outcome_of(&planned);
+    let answer = transcript_of(system.alloc, &book, planned)?;
+    let remark = reshard_remark(system.alloc, outcome, &owners, sources)?;
+    Ok(Said::Answer(answer, remark))
 }
 
 /// What there is to say, unless the words do not give a weight for each node.
 fn rebalance_answer<
     H: Net<Listener = TcpListener, Stream = TcpStream> + Clock + Files<File = File> + AllocGlobal,
->(system: &System<'_, H>, words: &RebalanceWords) -> Result<Option<Transcript>, AllocError>
+>(system: &System<'_, H>, words: &RebalanceWords) -> Result<Said, AllocError>
     requires { IsRebalance words.now }
-    ensures status { IfOk result (λ o. IfSome o (λ t. t.status ≤ 1)) }
-    ensures says { IfOk result (λ o. MatchOption o (NamesNoWeights words.now)
-        (λ t. IsRebalanceAnswer words.now t.status t.printed.items)) }
+    ensures { IfOk result (IsSaid (IsRebalanceAnswer words.now) (NamesNoWeights words.now)) }
 {
     let (owners, book) = match owners_at_start(system, &words.start, &[]) {
         Ok(found) => found,
         Err(NoCluster::Memory) => return Err(AllocError),
-        Err(NoCluster::Answer(answer)) => return Ok(Some(answer)),
+        Err(NoCluster::Answer(answer)) => return Ok(Said::Answer(answer, Vec::new(system.alloc))),
     };
-    let Some(weights) = weights_asked(words, system.alloc, owners.nodes())? else {
-        return Ok(None);
+    let nodes = owners.nodes();
+    let Some(weights) = weights_asked(words, system.alloc, nodes)? else {
+        return Ok(Said::Misnamed(misnamed_weights(system.alloc, words, nodes)?));
     };
     let planned = rebalance(
         system.alloc,
@@ -159,25 +142,27 @@ fn rebalance_answer<
         words.use_empty,
         words.batch,
     );
-    Ok(Some(transcript_of(system.alloc, &book, planned)?))
+    let outcome = outcome_of(&planned);
+    let answer = transcript_of(system.alloc, &book, planned)?;
+    let remark = rebalance_remark(system.alloc, outcome, words.use_empty, &owners)?;
+    Ok(Said::Answer(answer, remark))
 }
 
 /// What there is to say, unless the words name no nodes of the cluster.
 fn drain_answer<
     H: Net<Listener = TcpListener, Stream = TcpStream> + Clock + Files<File = File> + AllocGlobal,
->(system: &System<'_, H>, words: &DrainWords) -> Result<Option<Transcript>, AllocError>
+>(system: &System<'_, H>, words: &DrainWords) -> Result<Said, AllocError>
     requires { IsDraining words.now }
-    ensures status { IfOk result (λ o. IfSome o (λ t. t.status ≤ 1)) }
-    ensures says { IfOk result (λ o. MatchOption o (NamesNoDrain words.now)
-        (λ t. IsDrainAnswer words.now t.status t.printed.items)) }
+    ensures { IfOk result (IsSaid (IsDrainAnswer words.now) (NamesNoDrain words.now)) }
 {
     let (owners, book) = match owners_at_start(system, &words.start, &[]) {
         Ok(found) => found,
         Err(NoCluster::Memory) => return Err(AllocError),
-        Err(NoCluster::Answer(answer)) => return Ok(Some(answer)),
+        Err(NoCluster::Answer(answer)) => return Ok(Said::Answer(answer, Vec::new(system.alloc))),
     };
-    let Some((sources, targets)) = drain_named(words, system.alloc, owners.nodes())? else {
-        return Ok(None);
+    let nodes = owners.nodes();
+    let Some((sources, targets)) = drain_named(words, system.alloc, nodes)? else {
+        return Ok(Said::Misnamed(misnamed_drain(system.alloc, words, nodes)?));
     };
     let planned = drain(
         system.alloc,
@@ -186,7 +171,9 @@ fn drain_answer<
         targets.as_slice(),
         words.batch,
     );
-    Ok(Some(transcript_of(system.alloc, &book, planned)?))
+    let outcome = outcome_of(&planned);
+    let answer = transcript_of(system.alloc, &book, planned)?;
+    Ok(Said::Answer(answer, drain_remark(system.alloc, outcome)?))
 }
 
 /// The plan's text, or why there is no plan. Out of memory is an error of its own.
@@ -198,6 +185,7 @@ fn transcript_of(
     ensures status { IfOk result (λ t. t.status ≤ 1) }
     ensures says { IfOk result (λ t. (nodes : ℕ) (wanted : Answer) → Gives nodes planned wanted
         → SaysPlanned nodes book.now wanted t.status t.printed.items) }
+    ensures there { IfOk result (λ _. planned ≢ Err Memory) }
 {
     match planned {
         Ok(plan) => transcript_of_plan(alloc, book, plan),

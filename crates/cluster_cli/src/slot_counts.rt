@@ -27,7 +27,7 @@ fn at_least_one(number: u16) -> u16
 }
 
 /// How many slots have one of the nodes as their owner.
-fn owned_by(owners: &OwnerTable, nodes: &[NodeId]) -> u16
+pub(crate) fn owned_by(owners: &OwnerTable, nodes: &[NodeId]) -> u16
     ensures owned { result ≡ owned_by nodes.now owners.now.owners }
     ensures few { result ≤ 16384 }
 {

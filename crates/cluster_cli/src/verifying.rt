@@ -9,7 +9,7 @@ ghost use Rattle.transcripts.specs.PlanVerdicts.{SaysOfPlan};
 ghost use Rattle.byte_streams.specs.declared.reading.Unread.TheVariants as unread;
 
 use byte_streams::{ByteIn, ByteOut, Unread, read_whole};
-use cluster_inspection::{System, out_of_memory, report, verify_at};
+use cluster_inspection::{System, out_of_memory, report, verify_at, verify_plainly};
 use command_words::{Sizes, Start};
 use key_slots::OwnerTable;
 use plan_runner::{Plan, parse};
@@ -19,7 +19,7 @@ use std::net::{Net, TcpListener, TcpStream};
 use std::time::Clock;
 use transcripts::{Transcript, verify_and_report};
 
-/// Verifies the plan that the reader gives, by an even split or at a cluster of servers.
+/// Verifies the plan that the reader gives, by an even split, at a cluster of servers or by its survey.
 pub fn verify_from<
     H: Net<Listener = TcpListener, Stream = TcpStream> + Clock + Files<File = File> + AllocGlobal,
     R: ByteIn,
@@ -33,6 +33,7 @@ pub fn verify_from<
     match start {
         Start::Even(sizes) => verify_plan(system.alloc, *sizes, reader, writer),
         Start::Cluster(words) => verify_at(system, words, reader, writer),
+        Start::Survey(_) => verify_plainly(system, start, reader, writer),
     }
 }
 

@@ -3,13 +3,14 @@ ghost use Rattle.std.specs.Prelude.{◌≡◌, ◌≤◌, IfOk, IfSome, length, 
 ghost use Rattle.std.specs.List.{All};
 ghost use Rattle.cluster_cli.specs.WeightsByName.{weights_asked};
 
+use crate::misnaming::knows_names;
 use crate::named_nodes::weights_named;
 use crate::weights_by_name::weights_of_some;
-use command_words::{RebalanceWords, Start};
+use command_words::RebalanceWords;
 use std::alloc::{AllocError, Global};
 
-/// The weight of each node of a cluster of so many: as the words list them, or 1. At a cluster of servers the words may
-/// also give some nodes theirs by name.
+/// The weight of each node of a cluster of so many: as the words list them, or 1. Where the
+/// plan starts at a cluster of servers or from a survey, the words may also give some nodes theirs by name.
 pub fn weights_asked(
     words: &RebalanceWords,
     alloc: Global,
@@ -22,8 +23,10 @@ pub fn weights_asked(
     if let Some(weights) = weights_named(words, alloc, nodes)? {
         return Ok(Some(weights));
     }
-    match (&words.start, &words.weights) {
-        (Start::Cluster(_), Some(text)) => weights_of_some(alloc, text.as_bytes(), nodes),
+    match &words.weights {
+        Some(text) if knows_names(&words.start) => {
+            weights_of_some(alloc, text.as_bytes(), nodes)
+        }
         _ => Ok(None),
     }
 }

@@ -48,7 +48,7 @@ fn row_of(alloc: Global, items: &[&[u8]], nodes: u8) -> Result<Option<Vec<Option
 }
 
 /// The node of the cluster that the item names, and the weight that it gives to it.
-fn item_of(item: &[u8], nodes: u8) -> Option<(NodeId, u16)>
+pub(crate) fn item_of(item: &[u8], nodes: u8) -> Option<(NodeId, u16)>
     ensures value { result ≡ item_of nodes item.now }
     ensures exists { IfSome result (λ p. p.0 < nodes) }
     ensures light { IfSome result (λ p. p.1 ≤ 1000) }

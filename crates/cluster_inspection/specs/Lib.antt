@@ -11,3 +11,4 @@ pub mod Starts
 pub mod Stranded
 pub mod Surveying
 pub mod VerifyingAt
+pub mod VerifyingFrom

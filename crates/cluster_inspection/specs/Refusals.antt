@@ -5,7 +5,7 @@ use Rattle.byte_streams.specs.Streams.{Input, Output}
 use Rattle.byte_streams.specs.declared.reading.Unread.{Unread}
 use Rattle.byte_streams.specs.declared.reading.Unread.TheVariants as unread
 use Rattle.command_words.specs.declared.usage.Start.{Start}
-use Rattle.command_words.specs.declared.usage.Start.TheVariants.{Cluster, Even}
+use Rattle.command_words.specs.declared.usage.Start.TheVariants.{Cluster, Even, Survey}
 use Rattle.plan_language.specs.Faults.{parse_fault_text}
 use Rattle.plan_language.specs.Texts.{Parsed, any_plan_of_text, plan_of_text}
 use Rattle.plan_language.specs.declared.parse_fault.ParseFault.{ParseFault}
@@ -72,10 +72,11 @@ IsNoPlan parsed refusal.Memory = Unit {0}
 IsNoPlan parsed refusal.Unread = ⊥
 IsNoPlan parsed (refusal.Answer t) = TellsNoPlan parsed t
 
--- the plan that a text is where it starts from an even split; for a cluster of servers it may list nodes
+-- the plan that a text is where it starts from an even split; for a cluster of servers, or its survey, it may list nodes
 abbrev pub plan_from : Start → List ℕ → Parsed
 plan_from (Even s) text = plan_of_text text
 plan_from (Cluster g) text = any_plan_of_text text
+plan_from (Survey path) text = any_plan_of_text text
 
 -- such is the answer to what was read, memory ran out, or a read failed
 abbrev pub IsNoPlanIn : {R : Type 0} → (plan_of : List ℕ → Parsed) → Input R → Refusal → Type 0

@@ -1,8 +1,8 @@
 -- Where a plan starts: the table of the slots' owners, or why there is none.
-use Rattle.std.specs.Prelude.{◌≡◌, ◌⊎◌, ℕ, List, [], length, Option, None, Some, unwrap_or}
+use Rattle.std.specs.Prelude.{◌≡◌, ◌⊎◌, ◌++◌, ℕ, List, [], length, Option, None, Some, codes, string_bytes, unwrap_or}
 use Rattle.cluster_admin.specs.Surveys.{Survey, closed_survey, row_at}
 use Rattle.command_words.specs.declared.usage.Start.{Start}
-use Rattle.command_words.specs.declared.usage.Start.TheVariants.{Cluster, Even}
+use Rattle.command_words.specs.declared.usage.Start.TheVariants.{Cluster, Even, Survey as BySurvey}
 use Rattle.key_slots.specs.Owners.{IsEvenSplit, Owners}
 use Rattle.cluster_survey.specs.Arranging.{AreNamed}
 use Rattle.cluster_survey.specs.Found.{IsFound}
@@ -10,6 +10,9 @@ use Rattle.cluster_survey.specs.Masters.{IsAscending}
 use Rattle.node_names.specs.Names.{Names}
 use Rattle.plan_language.specs.PlanView.{PlanView}
 use Rattle.server_commands.specs.declared.book.Server.{Server}
+use Rattle.survey_files.specs.Faults.{fault_text}
+use Rattle.survey_files.specs.Surveys.{IsNoSurvey, IsSurveyIn}
+use Rattle.survey_files.specs.declared.file_fault.FileFault.{FileFault}
 use Rattle.survey_texts.specs.Expecting.{IsExpected}
 use Rattle.transcripts.specs.RunTexts.{open_text, unsurveyed_text}
 use Rattle.cluster_inspection.specs.declared.no_cluster.NoCluster.{NoCluster}
@@ -47,14 +50,42 @@ abbrev pub IsExpectedBy : {A : Type 0} → (file : Option A) → List Server →
 IsExpectedBy None b = Unit {0}
 IsExpectedBy (Some path) b = (text : List ℕ) × IsExpected b text None
 
+-- ---- the file of a survey
+
+-- some text is a survey of these servers, numbered by the names, and tells these owners
+abbrev pub AreOwnersIn : Names → List Server → Owners → Type 0
+AreOwnersIn names b o = (text : List ℕ) × IsSurveyIn names text b o
+
+-- the file can't be read, for some reason
+abbrev pub unread_reason : (path reason : List ℕ) → List ℕ
+unread_reason path reason = path ++ (codes " could not be read: " ++ reason)
+
+-- some text is no such survey
+abbrev pub IsNoSurveyReason : (reason : List ℕ) → Type 0
+IsNoSurveyReason reason = (names : Names) × (text : List ℕ) × (f : FileFault) × IsNoSurvey names text f
+    × (reason ≡ codes "--survey: " ++ fault_text f)
+
+-- the one or the other is told
+abbrev pub SaysNoFile : (path : List ℕ) → (status : ℕ) → (text : List ℕ) → Type 0
+SaysNoFile path status text = (status ≡ 1) × ((reason : List ℕ) × (text ≡ unsurveyed_text reason)
+    × (((why : List ℕ) × (reason ≡ unread_reason path why)) ⊎ IsNoSurveyReason reason))
+
+-- that is the answer, or memory ran out
+abbrev pub IsNoFile : (path : List ℕ) → NoCluster → Type 0
+IsNoFile path Memory = Unit {0}
+IsNoFile path (Answer t) = SaysNoFile path t.status t.printed.items
+
 -- ---- where a plan starts
 
--- an even split of these sizes, or the owners that all servers of a clean cluster tell, which has this book
+-- An even split of these sizes, or the owners that all servers of a clean cluster tell, which has this book; or those
+-- of the file of a survey.
 abbrev pub StartsFrom : Start → Names → (book : Option (List Server)) → Owners → Type 0
 StartsFrom (Even s) names None o = IsEvenSplit s.nodes s.owning o
 StartsFrom (Even s) names (Some b) o = ⊥
 StartsFrom (Cluster g) names None o = ⊥
 StartsFrom (Cluster g) names (Some b) o = AreOwnersOf names b o
+StartsFrom (BySurvey path) names None o = ⊥
+StartsFrom (BySurvey path) names (Some b) o = AreOwnersIn names b o
 
 -- there is no survey of the servers, or slots of theirs are open
 abbrev pub SaysNoStart : (status : ℕ) → (text : List ℕ) → Type 0
@@ -64,6 +95,7 @@ SaysNoStart status text =
 abbrev pub SaysUnstarted : Start → (status : ℕ) → (text : List ℕ) → Type 0
 SaysUnstarted (Even s) status text = ⊥
 SaysUnstarted (Cluster g) status text = SaysNoStart status text
+SaysUnstarted (BySurvey path) status text = SaysNoFile (string_bytes path) status text
 
 -- such a text is the answer, or memory ran out
 abbrev pub IsUnstarted : Start → NoCluster → Type 0
@@ -79,3 +111,8 @@ IsUnsurveyed reason (Answer t) = (t.status ≡ 1) × (t.printed.items ≡ unsurv
 abbrev pub IsUnfound : NoCluster → Type 0
 IsUnfound Memory = Unit {0}
 IsUnfound (Answer t) = SaysNoStart t.status t.printed.items
+
+-- the fault of a text that is no survey is told; or memory ran out
+abbrev pub TellsNoSurvey : Names → (text : List ℕ) → NoCluster → Type 0
+TellsNoSurvey names text none =
+    (f : FileFault) × IsNoSurvey names text f × IsUnsurveyed (codes "--survey: " ++ fault_text f) none

@@ -1,5 +1,5 @@
 -- What is said of a cluster of servers that is surveyed.
-use Rattle.std.specs.Prelude.{◌≡◌, ◌↔◌, ◌⊎◌, ⊤, ℕ, List, [], ◌++◌, Some, length, slice_get}
+use Rattle.std.specs.Prelude.{◌≡◌, ◌↔◌, ◌⊎◌, ◌||◌, ⊤, ℕ, List, [], ◌++◌, Some, length, slice_get}
 use Rattle.byte_streams.specs.Streams.{Output}
 use Rattle.cluster_survey.specs.Found.{IsFoundBeside}
 use Rattle.server_links.specs.Exchanges.{Answer}
@@ -29,9 +29,9 @@ SaysLines masters left v status text = SaysNoStart status text
     ⊎ (((lines : List ℕ) × HasPhaseLines v lines × IsSurveyText masters left v lines text)
     × ((status ≡ 0) ↔ IsClean v))
 
--- what the words ask for of each master
+-- what the words ask for of each master: a full survey has the ranges of slots
 abbrev pub details_of : SurveyWords → Details
-details_of g = record { slots = g.slots; keys = g.keys }
+details_of g = record { slots = g.slots || g.full; keys = g.keys }
 
 -- The survey of a cluster that was found beside such masters, with the texts of its own by what these told, with 0
 -- exactly where it is clean, and something is shown beside; or why there is none.

@@ -19,9 +19,11 @@ mod returning;
 mod showing;
 mod stranded;
 mod survey;
+mod survey_file;
 mod system;
 mod table_counts;
 mod verify;
+mod verify_plainly;
 
 pub use credentials::{CredentialFault, Variable, copy_of, credentials_given};
 pub use endings::{out_of_memory, report, show};
@@ -38,3 +40,4 @@ pub use stranded::tell_stranded;
 pub use survey::survey_cluster;
 pub use system::System;
 pub use verify::verify_at;
+pub use verify_plainly::verify_plainly;

@@ -7,6 +7,7 @@ ghost use Rattle.node_names.specs.Names.{AreNames};
 
 use crate::finding::{ASKING, find_cluster};
 use crate::no_cluster::{NoCluster, open_slots};
+use crate::survey_file::owners_in_file;
 use crate::system::System;
 use cluster_survey::FoundCluster;
 use command_words::{ClusterWords, Start};
@@ -17,8 +18,8 @@ use std::fs::{File, Files};
 use std::net::{Net, TcpListener, TcpStream};
 use std::time::Clock;
 
-/// The table of the even split, or of the cluster of servers with its book. No slot of the cluster may be open, and its
-/// nodes are numbered by the names.
+/// The table of the even split; or of the cluster of servers, or the survey in a file, with its book. No slot of the
+/// cluster may be open, and its nodes are numbered by the names.
 pub fn owners_at_start<
     H: Net<Listener = TcpListener, Stream = TcpStream> + Clock + Files<File = File> + AllocGlobal,
 >(
@@ -37,6 +38,10 @@ pub fn owners_at_start<
         }
         Start::Cluster(words) => {
             let (owners, book) = owners_of_cluster(system, words, names)?;
+            Ok((owners, Some(book)))
+        }
+        Start::Survey(path) => {
+            let (owners, book) = owners_in_file(system, path.as_str(), names)?;
             Ok((owners, Some(book)))
         }
     }

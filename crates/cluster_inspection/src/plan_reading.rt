@@ -30,7 +30,7 @@ pub fn plan_in<R: ByteIn>(alloc: Global, reader: &mut R) -> Result<Plan, Refusal
 }
 
 /// The plan from this start that the reader gives, or what is said of a text that is none. Only for a cluster of
-/// servers it may list nodes.
+/// servers, or its survey, it may list nodes.
 pub fn plan_from<R: ByteIn>(alloc: Global, start: &Start, reader: &mut R) -> Result<Plan, Refusal>
     ensures plan { IfOk result (λ plan. (input : List ℕ)
         × IsWholeInput R.gave R.ends reader.old reader.new input × (plan_from start.now input ≡ Ok plan)) }
@@ -51,7 +51,7 @@ fn plan_of_start(alloc: Global, start: &Start, text: &[u8]) -> Result<Plan, Refu
 {
     match start {
         Start::Even(_) => plan_or_refusal(alloc, parse(alloc, text)),
-        Start::Cluster(_) => plan_of(alloc, text),
+        Start::Cluster(_) | Start::Survey(_) => plan_of(alloc, text),
     }
 }
 

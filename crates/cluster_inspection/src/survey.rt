@@ -72,7 +72,7 @@ fn details_of(words: &SurveyWords) -> Details
     ensures { result ≡ details_of words.now }
 {
     Details {
-        slots: words.slots,
+        slots: words.slots || words.full,
         keys: words.keys,
     }
 }

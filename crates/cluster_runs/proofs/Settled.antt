@@ -35,19 +35,19 @@ pub settled_rest : {I O E : Type 0} (x : Setting I O E) (a : Attempt) (b : List 
     → Writes x.shows x.failures text screen screen' → LogsLines x.log_took text log log' → IsSettledRest x a log r
 settled_rest x a b v links blank told c text screen screen' log log' r empty settled book survey counts logged same shown
     lines = record {
-  links = links;
-  blank = blank;
-  empty = empty;
-  told = told;
-  settled = subst (λ k. IsSettledFrom (streams_in x) x.notes x.login a
-      (record { book = r.servers.book; survey = r.servers.surveyed.survey; links = links }) blank told k) (sym counts)
-      (subst₂ (λ b v. IsSettledFrom (streams_in x) x.notes x.login a (record { book = b; survey = v; links = links })
-      blank told c) (sym book) (sym survey) settled);
-  screen = screen;
-  screen' = screen';
-  shown = subst (λ t. Writes x.shows x.failures t screen screen') same shown;
-  logged = subst₂ (λ t l. LogsLines x.log_took t log l) same (sym logged) lines;
-}
+      links = links;
+      blank = blank;
+      empty = empty;
+      told = told;
+      settled = subst (λ k. IsSettledFrom (streams_in x) x.notes x.login a
+          (record { book = r.servers.book; survey = r.servers.surveyed.survey; links = links }) blank told k) (sym counts)
+          (subst₂ (λ b v. IsSettledFrom (streams_in x) x.notes x.login a (record { book = b; survey = v; links = links })
+          blank told c) (sym book) (sym survey) settled);
+      screen = screen;
+      screen' = screen';
+      shown = subst (λ t. Writes x.shows x.failures t screen screen') same shown;
+      logged = subst₂ (λ t l. LogsLines x.log_took t log l) same (sym logged) lines;
+    }
 
 -- what was found of failed masters before slots were settled holds after it
 pub away_after : {L I O : Type 0} (asks : Asks L) (dead : List ℕ) (names : Names) (before after : prepared.Prepared I O)
@@ -77,14 +77,14 @@ ready_again x g lines a log dead names before servers plan (Err e) found expecte
     plans targets = tt
 ready_again {I} {O} {E} x g lines a log dead names before servers plan (Ok p) found expected is d n away ready settled
     same left plans targets = record {
-  prepared = ready;
-  expected = subst (IsExpectedBy g.cluster.expect)
-      (sym (same.0 ∙ ap (λ (s : found.FoundCluster I O). s.book) found)) expected;
-  settled = settled;
-  targets = targets;
-  away = subst₂ (λ d n. AreAway (asks_of (streams_in x)) d n p.servers.left_out.items p.plan.plan.lines) d n
-      (away_after (asks_of (streams_in x)) dead names before p plan is plans left away);
-}
+      prepared = ready;
+      expected = subst (IsExpectedBy g.cluster.expect)
+          (sym (same.0 ∙ ap (λ (s : found.FoundCluster I O). s.book) found)) expected;
+      settled = settled;
+      targets = targets;
+      away = subst₂ (λ d n. AreAway (asks_of (streams_in x)) d n p.servers.left_out.items p.plan.plan.lines) d n
+          (away_after (asks_of (streams_in x)) dead names before p plan is plans left away);
+    }
 
 -- how many commands it stands for
 pub says_after : {I O : Type 0} (before after : prepared.Prepared I O) (text : List ℕ)

@@ -5,7 +5,7 @@ use Rattle.cluster_inspection.specs.declared.refusal.Refusal.{Refusal}
 use Rattle.cluster_inspection.specs.declared.refusal.Refusal.TheVariants as refusal
 use Rattle.command_words.specs.declared.usage.ExplainWords.{ExplainWords}
 use Rattle.command_words.specs.declared.usage.Start.{Start}
-use Rattle.command_words.specs.declared.usage.Start.TheVariants.{Cluster, Even}
+use Rattle.command_words.specs.declared.usage.Start.TheVariants.{Cluster, Even, Survey}
 use Rattle.plan_previews.specs.Drawing.{Draws}
 use Rattle.plan_previews.specs.Explaining.{SaysExplained}
 use Rattle.plan_previews.specs.Previews.{IsUnshown, TellsWhy}
@@ -18,6 +18,7 @@ why_one : {R : Type 0} (start : Start) (i : Input R) (t : Transcript) → TellsW
 why_one start i t (inl text) = text.2.2
 why_one (Even s) i t (inr (inl none)) = absurd none
 why_one (Cluster g) i t (inr (inl none)) = none.0
+why_one (Survey path) i t (inr (inl none)) = none.0
 why_one start i t (inr (inr fault)) = fault.2.2.2.3
 
 pub refused_says : {R : Type 0} (g : ExplainWords) (i : Input R) (r : Refusal) (t : Transcript) → IsUnshown g.start i r

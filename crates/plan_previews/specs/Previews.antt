@@ -9,7 +9,7 @@ use Rattle.cluster_inspection.specs.VerifyingAt.{line_of}
 use Rattle.cluster_inspection.specs.declared.refusal.Refusal.{Refusal}
 use Rattle.cluster_inspection.specs.declared.refusal.Refusal.TheVariants as refusal
 use Rattle.command_words.specs.declared.usage.Start.{Start}
-use Rattle.command_words.specs.declared.usage.Start.TheVariants.{Cluster, Even}
+use Rattle.command_words.specs.declared.usage.Start.TheVariants.{Cluster, Even, Survey}
 use Rattle.key_slots.specs.Owners.{Owners}
 use Rattle.transcripts.specs.PlanVerdicts.{SaysCount, SaysFault}
 use Rattle.plan_changes.specs.Outlines.{IsOutline}
@@ -67,10 +67,11 @@ abbrev pub IsCountedIn : {R : Type 0} → Input R → Preview → Type 0
 IsCountedIn i p =
     (input : List ℕ) × IsWholeInput i.gave i.ends i.before i.after input × IsCountedPreview (any_plan_of_text input) p
 
--- by the start
+-- by the start: keys are counted at the servers of a cluster alone
 abbrev pub IsShownIn : {R : Type 0} → Start → Input R → Preview → Type 0
 IsShownIn (Even s) i p = IsPlainIn (Even s) i p
 IsShownIn (Cluster g) i p = IsCountedIn i p
+IsShownIn (Survey path) i p = IsPlainIn (Survey path) i p
 
 -- ---- nothing to show
 

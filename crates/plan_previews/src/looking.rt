@@ -1,4 +1,4 @@
-//! What a plan comes to, where it starts from an even split or at a cluster of servers.
+//! What a plan comes to, where it starts from an even split, at a cluster of servers or from its survey.
 ghost use Rattle.std.specs.Prelude.{IfErr, IfOk, vec_len};
 ghost use Rattle.cluster_inspection.specs.Starts.{IsClean, IsNumberedBy, names_listed};
 ghost use Rattle.cluster_survey.specs.Found.{IsFound};
@@ -37,7 +37,7 @@ pub fn preview_from<
         (record { gave = R.gave; ends = R.ends; failures = R.failures; before = reader.old; after = reader.new })) }
 {
     match start {
-        Start::Even(_) => plain_preview(system, start, reader),
+        Start::Even(_) | Start::Survey(_) => plain_preview(system, start, reader),
         Start::Cluster(words) => counted_preview(system, words, reader),
     }
 }

@@ -4,13 +4,20 @@
 ghost use Rattle.std.specs.Prelude.{◌≡◌, ◌≢◌, ◌⊎◌, ℕ, List, ◌++◌, IfOk, OnErr, OnOk, Ok, codes, take};
 ghost use Rattle.std.specs.IoError.{error_kind};
 
+mod terminal;
+
+use crate::terminal::Announced;
 use byte_streams::{ByteOut, Failed, StandardIn, StandardOut, write_whole};
 use cluster_cli::{out_of_memory, run_words};
+use command_words::{takes_cluster, with_cluster};
 use std::alloc::{AllocError, Global};
+use std::env::{self, VarError};
 use std::fs::File;
-use std::io::ErrorKind;
+use std::io::{self, ErrorKind, IsTerminal};
 use std::process::ExitCode;
-use std::{env, io};
+
+/// The variable of the environment that stands in for `--cluster`.
+const CLUSTER: &str = "RESHARD_CLUSTER";
 
 /// Where nothing is read from.
 const NOWHERE: &str = "/dev/null";
@@ -23,10 +30,12 @@ fn main(rt: HostRuntime) -> io::Result<ExitCode> {
     let _second = File::open(&rt, NOWHERE);
     let _third = File::open(&rt, NOWHERE);
     let alloc = rt.alloc();
-    let mut reader = StandardIn::new(rt.stdin());
+    let given = words_given(&rt);
+    let announced = Announced::new(rt.stdin(), rt.stderr(), announcement(&rt, &given));
+    let mut reader = StandardIn::new(announced);
     let mut writer = StandardOut::new(rt.stdout());
     let mut errors = StandardOut::new(rt.stderr());
-    let status = match words_given(&rt) {
+    let status = match given {
         Ok(words) => run_words(
             &rt,
             alloc,
@@ -89,13 +98,40 @@ fn with_reason(alloc: Global, line: &[u8], reason: ErrorKind) -> Result<Vec<u8>,
     Ok(text)
 }
 
-/// The words of the command line after the program's name.
+/// The words of the command line after the program's name, and the cluster that the environment names, where they may
+/// name one and name none.
 fn words_given(rt: &HostRuntime) -> io::Result<Vec<String>> {
     let mut words = Vec::new(rt.alloc());
     for word in env::args(rt)?.skip(1) {
         words.push(word)?;
     }
-    Ok(words)
+    if !takes_cluster(words.as_slice()) {
+        return Ok(words);
+    }
+    match env::var(rt, CLUSTER) {
+        Ok(cluster) => Ok(with_cluster(rt.alloc(), words.as_slice(), cluster.as_str())?),
+        Err(VarError::NotPresent) => Ok(words),
+        // No address, which is wrong usage.
+        Err(VarError::NotUnicode) => Ok(with_cluster(rt.alloc(), words.as_slice(), "")?),
+        Err(VarError::OutOfMemory) => Err(io::Error::from(ErrorKind::OutOfMemory)),
+    }
+}
+
+/// What is told before standard input is read, where that is a terminal.
+fn announcement(rt: &HostRuntime, given: &io::Result<Vec<String>>) -> Option<&'static str> {
+    if !rt.stdin().is_terminal() {
+        return None;
+    }
+    match given {
+        Ok(words) if is_rehearsal(words.as_slice()) => {
+            Some("reading a script from the terminal; end it with Ctrl-D\n")
+        }
+        _ => Some("reading a plan from the terminal; end it with Ctrl-D\n"),
+    }
+}
+
+fn is_rehearsal(words: &[String]) -> bool {
+    matches!(words.first(), Some(word) if word.as_str() == "rehearse")
 }
 
 /// The status where the words could not be read as memory ran out, which is reported. Another error is handed back.

@@ -1,20 +1,22 @@
-use Rattle.std.proofs.Common.{rules, subst}
-use Rattle.reshard_planner.specs.Answers.{reshard_answer}
-use Rattle.cluster_cli.specs.Planning.{SaysPlanned, slots_asked}
+use Rattle.std.proofs.Common.{rules, ◌≡◌, ◌∙◌, ap, subst}
+use Rattle.reshard_planner.specs.Answers.{Gives, reshard_answer}
+use Rattle.cluster_cli.specs.Planning.{SaysPlanned, outcome_of, reshard_answers, reshard_remark}
+use Rattle.cluster_cli.proofs.Planned.{not_left}
 use Rattle.cluster_cli.proofs.planning.reshard_answer.Goals as goal
 
-pub returns-clause-says : goal.returns-clause-says
-returns-clause-says g c =
+pub returns : goal.returns
+returns g c =
     let o = c.in-Ok.found.0 in
     let sources = c.as_slice-sources.result.now in
-    let t = c.in_ok-transcript_of.field-0 in
-    let says : SaysPlanned o.nodes c.in-Ok.found.1
-    (reshard_answer o sources c.in-Some.target (slots_asked c.args.words.now.slots sources o.owners)
-    c.args.words.now.batch) t.status t.printed.items
-    = subst
-    (λ n. SaysPlanned o.nodes c.in-Ok.found.1 (reshard_answer o sources c.in-Some.target n c.args.words.now.batch)
-    t.status t.printed.items) c.slots_asked-count.ensures.count
-    (c.in_ok-transcript_of.ensures.says o.nodes
-    (reshard_answer o sources c.in-Some.target c.slots_asked-count.result c.args.words.now.batch)
-    c.reshard-planned.ensures.exact) in
-    search (rules, says)
+    let wanted = reshard_answers c.args.words.now o sources c.in-Some.target in
+    let gives : Gives o.nodes c.reshard-planned.result wanted
+    = subst (λ n. Gives o.nodes c.reshard-planned.result
+    (reshard_answer o sources c.in-Some.target n c.args.words.now.batch)) c.slots_asked-count.ensures.count
+    c.reshard-planned.ensures.exact in
+    let says : SaysPlanned o.nodes c.in-Ok.found.1 wanted c.in_ok-answer.answer.status c.in_ok-answer.answer.printed.items
+    = c.in_ok-answer.ensures.says o.nodes wanted gives in
+    let outcome : c.outcome_of-outcome.result ≡ outcome_of wanted
+    = not_left c.in_ok-answer.ensures.there (c.outcome_of-outcome.ensures o.nodes wanted gives) in
+    let remark : c.in_ok-remark.remark.items ≡ reshard_remark (outcome_of wanted) sources o.owners
+    = c.in_ok-remark.ensures ∙ ap (λ x. reshard_remark x sources o.owners) outcome in
+    search (rules, says, remark)

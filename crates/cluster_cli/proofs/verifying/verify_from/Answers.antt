@@ -8,3 +8,6 @@ returns-in-Even g c =
 
 pub returns-in-Cluster : goal.returns-in-Cluster
 returns-in-Cluster g c = rw c.in-Cluster.is c.verify_at.ensures
+
+pub returns-in-Survey : goal.returns-in-Survey
+returns-in-Survey g c = rw c.in-Survey.is c.verify_plainly.ensures

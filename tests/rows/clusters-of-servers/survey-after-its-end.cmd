@@ -1,0 +1,1 @@
+verify --survey survey-after-its-end.survey

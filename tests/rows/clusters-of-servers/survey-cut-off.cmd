@@ -1,0 +1,1 @@
+verify --survey survey-cut-off.survey

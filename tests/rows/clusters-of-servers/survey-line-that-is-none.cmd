@@ -1,0 +1,1 @@
+verify --survey survey-line-that-is-none.survey

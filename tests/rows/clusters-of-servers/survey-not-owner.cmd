@@ -1,0 +1,1 @@
+verify --survey three.survey

@@ -1,0 +1,1 @@
+verify --survey survey-out-of-turn.survey

@@ -1,0 +1,1 @@
+plan-rebalance --survey three.survey --weights n0=2 --batch 100

@@ -1,0 +1,1 @@
+verify --survey survey-same-id.survey

@@ -1,0 +1,1 @@
+verify --survey survey-too-many-slots.survey

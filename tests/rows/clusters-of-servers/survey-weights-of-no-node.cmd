@@ -1,0 +1,1 @@
+plan-rebalance --survey three.survey --weights n3=2
