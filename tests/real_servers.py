@@ -880,6 +880,65 @@ def is_logged_well(it, log, ran, what):
 
 
 @part
+def environment(it):
+    """What the environment says in place of words: a password, and a cluster."""
+    with it.servers(password=SECRET) as servers:
+        file, survey = it.folder / "password", ["survey", "--cluster", servers.address(0)]
+        for name, text in [("with a line end", SECRET + "\n"), ("without one", SECRET)]:
+            file.write_text(text)
+            ran = it.run(*survey, environment={"RESHARD_AUTH_FILE": str(file)})
+            it.check(f"a password in a file {name}", ran.status == 0, ran)
+        for given, what in [
+            ({"REDISCLI_AUTH": SECRET}, "redis-cli's password"),
+            ({"RESHARD_AUTH": SECRET, "RESHARD_AUTH_FILE": "nowhere", "REDISCLI_AUTH": "other"}, "the first of three"),
+            ({"RESHARD_AUTH_FILE": str(file), "REDISCLI_AUTH": "other"}, "the file before redis-cli's"),
+        ]:
+            ran = it.run(*survey, environment=given)
+            it.check(what, ran.status == 0 and not holds_secrets(ran.out + ran.err), ran)
+        is_no_password(it, survey, file)
+        found = {"RESHARD_AUTH": SECRET, "RESHARD_CLUSTER": servers.address(0)}
+        it.check("a cluster of the environment", it.run("survey", environment=found).status == 0)
+        ran = it.run("verify", "--nodes", 3, plan=plan_of("move 1 from n0 to n1 by 10"), environment=found)
+        it.check("a word that is given wins", (ran.status, ran.out) == (0, "verified 6 commands\n"), ran)
+        for address in ("", "127.0.0.1", "127.0.0.1:0"):
+            ran = it.run("survey", environment={"RESHARD_CLUSTER": address})
+            told = "error: --cluster is 1 to 8 addresses"
+            it.check(f"no address: {address!r}", ran.status == 2 and told in ran.err, ran)
+    reads_a_terminal(it)
+
+
+def is_no_password(it, survey, file):
+    """Each is told before a server is asked."""
+    long, empty = it.folder / "long", it.folder / "empty"
+    long.write_bytes(b"x" * 1_048_577)
+    empty.write_text("\n")
+    for path, text in [
+        (it.folder / "none", "names no file"),
+        (it.folder, "names a directory"),
+        (empty, "names a file without a password"),
+        (long, "names a file of more than 1048576 bytes"),
+    ]:
+        ran = it.run(*survey, environment={"RESHARD_AUTH_FILE": str(path)})
+        told = (2, "", f"error: RESHARD_AUTH_FILE {text}\n")
+        it.check(f"a file that {text}", (ran.status, ran.out, ran.err) == told, ran)
+    ran = it.run(*survey, environment={"REDISCLI_AUTH": ""})
+    it.check("an empty variable", (ran.status, ran.err) == (2, "error: REDISCLI_AUTH is empty\n"), ran)
+
+
+def reads_a_terminal(it):
+    """A plan from a terminal is announced, and ends with Ctrl-D."""
+    for words, what in [(["verify", "--nodes", "3"], "a plan"), (["rehearse"], "a script")]:
+        keyboard, screen = os.openpty()
+        running = subprocess.Popen([it.program, *words], stdin=screen, stdout=subprocess.PIPE, stderr=subprocess.PIPE)
+        os.close(screen)
+        os.write(keyboard, b"\x04")
+        out, err = running.communicate(timeout=60)
+        os.close(keyboard)
+        told = f"reading {what} from the terminal; end it with Ctrl-D\n".encode()
+        it.check(f"{what} from a terminal", err == told, (running.returncode, out, err))
+
+
+@part
 def errors(it):
     no_memory(it)
     no_command(it)
@@ -1337,7 +1396,8 @@ def rights(it, servers, plan):
     log.chmod(OPEN_TO_OTHERS)
     before = log.read_bytes()
     ran = it.run("apply", "--cluster", servers.address(0), "--log", log, plan=plan())
-    it.has_printed(ran, 1, re.escape(f"refused: --log {log} is not empty: give --append or --overwrite"), "a log in use")
+    told = re.escape(f"refused: --log {log} is not empty: give --append or --overwrite")
+    it.has_printed(ran, 1, told, "a log in use")
     it.check("a log that is refused stays", log.read_bytes() == before and not marked(servers))
     it.applied(servers, plan(), "a log that was there", "--log", log, "--append")
     it.check("a log that is appended to keeps its lines", log.read_bytes().startswith(before) and len(before) > 0)

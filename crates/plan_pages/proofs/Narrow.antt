@@ -1,6 +1,6 @@
 -- The lines of a page are narrow.
 use Rattle.std.proofs.Common.{◌≡◌, ℕ, zero, suc, ◌+◌, ◌-◌, ◌*◌, ◌/◌, ◌%◌, ◌^◌, ◌<◌, ◌≤◌, Bool, true, false, cond, ◌==◌}
-use Rattle.std.proofs.Common.{List, [], ◌∷◌, ◌++◌, length}
+use Rattle.std.proofs.Common.{List, [], ◌∷◌, ◌++◌, length, nat_lt}
 use Rattle.std.proofs.Common.{Option, None, Some, IfSome, All, codes, decimal, is_some, sym, refl, ap, ◌∙◌, subst}
 use Rattle.std.proofs.Common.{arith, length-append, append_assoc, append-nil}
 use Rattle.std.specs.List.{flat_map}
@@ -29,6 +29,7 @@ use Rattle.plan_pages.specs.Runs.{again_heading, back_heading, fits, gap, more_r
 use Rattle.plan_pages.specs.Runs.{runs_text}
 use Rattle.plan_pages.specs.Servers.{address_line, figures_line, id_line, keys_told, limit_told, memory_told}
 use Rattle.plan_pages.specs.Servers.{server_lines, servers_heading, servers_section}
+use Rattle.plan_pages.specs.Sizes.{limit_size, size_text, sizes_line, sizes_of, used_line}
 use Rattle.plan_pages.specs.Stops.{open_words, stand_word, stop_heading, stop_section}
 use Rattle.plan_pages.specs.Widths.{AreCounts, HasDigits, HasNumbers, HasRoom, IsLoad, IsNode, IsPair, IsRange, IsRun}
 use Rattle.plan_pages.specs.Widths.{PagesAreNarrow}
@@ -367,6 +368,43 @@ module _ (w : ℕ) (wide : 80 ≤ w) where
       (put_before w (limit_told s.max_memory) (12 + has.digits)
       (limit_told_long has.digits s.max_memory has.some has.limit) ended))))) (omega (arith, few))
 
+  unit_long : (k : ℕ) → k < 2 ^ 64 → (t : List ℕ) → length t ≡ 3 → length (decimal k ++ t) ≤ 23
+  unit_long k lt t three = two_long (decimal k) t 20 3 (long_long k lt) (omega (arith, three))
+
+  size_long : (m : ℕ) → m < 2 ^ 64 → length (size_text m) ≤ 23
+  unfolding size_text
+  size_long m lt =
+      either_long (nat_lt m 10485760) (decimal (m / 1024) ++ codes " KB") _ 23
+      (unit_long (m / 1024) (omega (arith, lt)) (codes " KB") refl)
+      (either_long (nat_lt m 10737418240) (decimal (m / 1048576) ++ codes " MB") _ 23
+      (unit_long (m / 1048576) (omega (arith, lt)) (codes " MB") refl)
+      (unit_long (m / 1073741824) (omega (arith, lt)) (codes " GB") refl))
+
+  limit_size_long : (d : ℕ) (o : Option ℕ) → IfSome o (HasDigits d) → length (limit_size o) ≤ 35
+  unfolding limit_size
+  limit_size_long d None is = omega arith
+  limit_size_long d (Some zero) is = omega arith
+  limit_size_long d (Some (suc m)) is =
+      two_long (codes " of at most ") (size_text (suc m)) 12 23 (omega arith) (size_long (suc m) is.1)
+
+  used_narrow : (d m : ℕ) (limit : Option ℕ) → HasDigits d m → IfSome limit (HasDigits d) → 80 ≤ w
+      → AreLines w (used_line m limit)
+  unfolding used_line
+  used_narrow d m limit is bound wide =
+      one_line w
+      (put_before w (codes "     ") 5 (omega arith)
+      (put_before w (size_text m) 23 (size_long m is.1)
+      (put_before w (codes " used") 5 (omega arith)
+      (put_before w (limit_size limit) 35 (limit_size_long d limit bound) ended)))) (omega (arith, wide))
+
+  sizes_of_narrow : (d : ℕ) (used limit : Option ℕ) → IfSome used (HasDigits d) → IfSome limit (HasDigits d) → 80 ≤ w
+      → AreLines w (sizes_of used limit)
+  sizes_of_narrow d None limit is bound wide = no_lines w
+  sizes_of_narrow d (Some m) limit is bound wide = used_narrow d m limit is bound wide
+
+  sizes_narrow : (s : NodeServer) → HasRoom w s → AreLines w (sizes_line s)
+  sizes_narrow s has = sizes_of_narrow has.digits s.used_memory s.max_memory has.used has.limit wide
+
   address_narrow : (s : NodeServer) → HasRoom w s → AreLines w (address_line s)
   unfolding address_line
   address_narrow s has =
@@ -390,7 +428,8 @@ module _ (w : ℕ) (wide : 80 ≤ w) where
 
   server_narrow : (s : NodeServer) → HasRoom w s → AreLines w (server_lines s)
   server_narrow s has =
-      then_lines w (address_narrow s has) (then_lines w (id_narrow s has) (figures_narrow s has))
+      then_lines w (address_narrow s has)
+      (then_lines w (id_narrow s has) (then_lines w (figures_narrow s has) (sizes_narrow s has)))
 
   servers_narrow : (ss : List NodeServer) → All (HasRoom w) ss → AreLines w (servers_section ss)
   unfolding servers_heading

@@ -6,6 +6,7 @@ pub mod Pairs
 pub mod Reading
 pub mod Runs
 pub mod Servers
+pub mod Sizes
 pub mod Stops
 pub mod Widths
 pub mod Words

@@ -2,6 +2,7 @@
 use Rattle.std.specs.Prelude.{ℕ, zero, suc, List, [], ◌∷◌, ◌++◌, Option, None, Some, codes, decimal}
 use Rattle.std.specs.List.{flat_map}
 use Rattle.plan_outlines.specs.declared.nodes.NodeServer.{NodeServer}
+use Rattle.plan_pages.specs.Sizes.{sizes_line}
 use Rattle.plan_pages.specs.Words.{key_word, node_text}
 
 unfoldable pub servers_heading : List ℕ
@@ -37,7 +38,7 @@ figures_line s = codes "     " ++ (keys_told s.keys ++ (codes ", " ++ (memory_to
     ++ (limit_told s.max_memory ++ 10 ∷ []))))
 
 abbrev pub server_lines : NodeServer → List ℕ
-server_lines s = address_line s ++ (id_line s ++ figures_line s)
+server_lines s = address_line s ++ (id_line s ++ (figures_line s ++ sizes_line s))
 
 -- what a server is called: its host and its ID, one after the other
 abbrev pub names_of : NodeServer → List ℕ

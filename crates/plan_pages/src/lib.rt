@@ -10,6 +10,7 @@ mod pairs;
 mod putting;
 mod runs;
 mod servers;
+mod sizes;
 mod stops;
 #[cfg(test)]
 mod tests;

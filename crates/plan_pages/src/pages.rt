@@ -26,7 +26,7 @@ pub fn page(
     ensures text { IfOk result (λ t. t.items ≡ page_text outline.now servers.now resume.now) }
     ensures few { IfOk result (λ t. length t.items ≤ 760 + (150 * length outline.now.ranges.items
         + (360 * length outline.now.nodes.items + (140 * length outline.now.pairs.items
-        + (160 * length servers.now + (length (names servers.now)
+        + (240 * length servers.now + (length (names servers.now)
         + (50 * (length outline.now.moved_again.items + length outline.now.moved_back.items)
         + length resume.now))))))) }
 {

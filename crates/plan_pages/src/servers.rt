@@ -5,6 +5,7 @@ ghost use Rattle.plan_pages.specs.Servers.{address_line, figures_line, id_line, 
 ghost use Rattle.plan_pages.specs.Servers.{names, names_of, server_lines, servers_heading, servers_section};
 
 use crate::putting::{key_word, put, put_node, put_number};
+use crate::sizes::put_sizes;
 use byte_texts::Memory;
 use plan_outlines::NodeServer;
 
@@ -12,7 +13,7 @@ use plan_outlines::NodeServer;
 pub(crate) fn put_servers(out: &mut Vec<u8>, servers: &[NodeServer]) -> Result<(), Memory>
     ensures text { OnOk result (out.new.items ≡ out.old.items ++ servers_section servers.now) }
     ensures few { OnOk result (length out.new.items
-        ≤ length out.old.items + (10 + (160 * length servers.now + length (names servers.now)))) }
+        ≤ length out.old.items + (10 + (240 * length servers.now + length (names servers.now)))) }
 {
     if servers.is_empty() {
         return Ok(());
@@ -32,7 +33,7 @@ fn put_heading(out: &mut Vec<u8>) -> Result<(), Memory>
 fn put_each(out: &mut Vec<u8>, servers: &[NodeServer]) -> Result<(), Memory>
     ensures text { OnOk result (out.new.items ≡ out.old.items ++ flat_map server_lines servers.now) }
     ensures few { OnOk result (length out.new.items
-        ≤ length out.old.items + (160 * length servers.now + length (names servers.now))) }
+        ≤ length out.old.items + (240 * length servers.now + length (names servers.now))) }
 {
     for server in servers {
         put_server(out, server)?;
@@ -42,11 +43,12 @@ fn put_each(out: &mut Vec<u8>, servers: &[NodeServer]) -> Result<(), Memory>
 
 fn put_server(out: &mut Vec<u8>, server: &NodeServer) -> Result<(), Memory>
     ensures text { OnOk result (out.new.items ≡ out.old.items ++ server_lines server.now) }
-    ensures few { OnOk result (length out.new.items ≤ length out.old.items + (160 + length (names_of server.now))) }
+    ensures few { OnOk result (length out.new.items ≤ length out.old.items + (240 + length (names_of server.now))) }
 {
     put_address(out, server)?;
     put_id(out, server)?;
-    put_figures(out, server)
+    put_figures(out, server)?;
+    put_sizes(out, server)
 }
 
 #[tactic(auto, unfolding(crate::specs::Servers::address_line))]

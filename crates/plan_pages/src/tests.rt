@@ -28,6 +28,7 @@ servers
   n0 127.0.0.1:7000
      id 07c37dfeb235213a872192d90877d0cd55635b91
      123456 keys, 1234567 bytes used of at most 2000000
+     1205 KB used of at most 1953 KB
 
 what goes where
       0-682        683 slots   n0 -> n2

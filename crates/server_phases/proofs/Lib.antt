@@ -1,6 +1,6 @@
 pub mod Joined
-pub mod Kinds
 pub mod Likely
+pub mod LinesByKind
 pub mod Marks
 pub mod Moved
 pub mod Ordinary

@@ -8,5 +8,5 @@ abbrev pub invariant-loop-server : goal.invariant-loop-server
 invariant-loop-server l = record {
   text : l.out.items ≡ l.initial.out.items ++ flat_map server_lines (take l.server-index l.servers);
   few : length l.out.items
-      ≤ length l.initial.out.items + (160 * l.server-index + length (names (take l.server-index l.servers)));
+      ≤ length l.initial.out.items + (240 * l.server-index + length (names (take l.server-index l.servers)));
 }
