@@ -1,5 +1,6 @@
 pub mod CleanOwners
 pub mod Filled
+pub mod Found
 pub mod Lines
 pub mod Listing
 pub mod Returned
