@@ -25,21 +25,21 @@ pub(crate) fn as_expected<H: Files<File = File> + AllocGlobal, I: Drop, O: Drop>
 {
     match &words.expect {
         None => Ok(servers),
-        Some(path) => as_in_file(system, path, servers),
+        Some(path) => as_in_file(system, path.as_str(), servers),
     }
 }
 
 /// The cluster, if it is as the file with this path has it.
 fn as_in_file<H: Files<File = File> + AllocGlobal, I: Drop, O: Drop>(
     system: &System<'_, H>,
-    path: &String,
+    path: &str,
     servers: FoundCluster<I, O>,
 ) -> Result<FoundCluster<I, O>, NoCluster>
     ensures same { IfOk result (λ f. f ≡ servers) }
     ensures expected { IfOk result (λ f. (text : List ℕ) × IsExpected f.book text None) }
     ensures unfound { IfErr result IsUnfound }
 {
-    match fs::read(system.rt, path.as_str()) {
+    match fs::read(system.rt, path) {
         Ok(text) => as_in_text(system.alloc, text.as_slice(), servers),
         Err(error) => {
             let reason = format!(in system.alloc; "{path} could not be read: {error}")?;
