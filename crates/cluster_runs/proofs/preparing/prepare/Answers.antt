@@ -1,5 +1,7 @@
+use Rattle.std.proofs.Common.{◌≡◌, rules}
 use Rattle.cluster_inspection.proofs.Started.{no_cluster_refusal, refusal_of, refusals_of}
 use Rattle.cluster_inspection.proofs.Unfound.{refused_unfound}
+use Rattle.cluster_runs.proofs.Settled.{found_there}
 use Rattle.cluster_runs.proofs.preparing.prepare.Goals as goal
 
 pub returns-then-not-is_clean-clause-refusal : goal.returns-then-not-is_clean-clause-refusal
@@ -12,3 +14,11 @@ returns-in_err-servers-clause-refusal g c =
     refusals_of _ c.from_residual-in_err-servers.result
     (refused_unfound c.in_err-servers.field-0.0 c.from_residual-in_err-servers.result c.in_err-servers.ensures.unfound
     c.from_residual-in_err-servers.ensures.1)
+
+pub returns-clause-at : goal.returns-clause-at
+returns-clause-at g c =
+    let ready = c.in_ok-prepared-count.prepared in
+    let same : c.in_ok-copy.copy ≡ c.in_ok-plan.plan = search rules in
+    let servers : ready.servers ≡ c.in_ok-servers.servers = search rules in
+    found_there _ c.args.words.now.cluster c.names_listed.result.now c.in_ok-plan.plan c.in_ok-copy.copy
+    c.in_ok-servers.servers ready.servers same servers c.names_listed.ensures.value c.in_ok-servers.ensures.at
