@@ -82,7 +82,7 @@ ready_again {I} {O} {E} x g lines a log dead names asked before servers plan (Ok
       prepared = ready;
       expected = subst (IsExpectedBy g.cluster.expect)
           (sym (same.0 ∙ ap (λ (s : found.FoundCluster I O). s.book) found)) expected;
-      found = servers;
+      first = servers;
       at = subst (λ ns. IsFoundAt (over_sockets (streams_in x) x.login) g.cluster ns servers) m at;
       book = same.0 ∙ ap (λ (s : found.FoundCluster I O). s.book) found;
       surveyed = same.1 ∙ ap (λ (s : found.FoundCluster I O). s.surveyed) found;

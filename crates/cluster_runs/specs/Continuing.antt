@@ -23,11 +23,11 @@ pub record IsReadyAgain {I O E : Type 0} (x : Setting I O E) (g : ApplyWords) (l
     (a : Attempt) (log : Option (RunLog FileOut)) (r : prepared.Prepared I O) : Type 0 where
   pub prepared : IsPreparedRest a.batch lines r
   pub expected : IsExpectedBy g.cluster.expect r.servers.book
-  pub found : found.FoundCluster I O
-  pub at : IsFoundAt (over_sockets (streams_in x) x.login) g.cluster (names_listed lines) found
-  pub book : r.servers.book ≡ found.book
-  pub surveyed : r.servers.surveyed ≡ found.surveyed
-  pub settled : IsSettledRest x a log found.links.items r
+  pub first : found.FoundCluster I O
+  pub at : IsFoundAt (over_sockets (streams_in x) x.login) g.cluster (names_listed lines) first
+  pub book : r.servers.book ≡ first.book
+  pub surveyed : r.servers.surveyed ≡ first.surveyed
+  pub settled : IsSettledRest x a log first.links.items r
   pub targets : AreTargetsEmpty (Sends (streams_in x)) r.servers.surveyed.survey lines.lines
   pub away : AreAway (asks_of (streams_in x)) (dead_ids g.dead_for_good) (names_listed lines)
       r.servers.left_out.items r.plan.plan.lines
