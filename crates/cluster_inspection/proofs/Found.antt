@@ -31,7 +31,7 @@ module _ {I O : Type 0} (s : Seeking I O) (g : ClusterWords) (names : Names) whe
       → IsFoundBy s.reaches s.refuses s.by s.login addresses names f.book f.links.items f.surveyed.survey
       f.surveyed.epochs.items f.left_out.items → IsFoundAt s g names f
   found_at f addresses same is =
-      subst (λ as. IsFoundBy s.reaches s.refuses s.by s.login as names f.book f.links.items f.surveyed.survey
+      subst (λ places. IsFoundBy s.reaches s.refuses s.by s.login places names f.book f.links.items f.surveyed.survey
       f.surveyed.epochs.items f.left_out.items) same is
 
   -- it was found, and is not as the words expect it
@@ -48,6 +48,6 @@ module _ {I O : Type 0} (s : Seeking I O) (g : ClusterWords) (names : Names) whe
   not_found e addresses Memory same is told = tt
   not_found e addresses (Answer t) same is told = inl (
     e,
-    subst (λ as. IsUnfoundBy s.reaches s.refuses s.by s.login s.over as names e) same is,
+    subst (λ places. IsUnfoundBy s.reaches s.refuses s.by s.login s.over places names e) same is,
     told,
   )
