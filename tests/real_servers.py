@@ -254,7 +254,7 @@ def plans(it):
         ran = it.run("plan-drain", *cluster, "--from", "n0,n1,n2")
         it.has_printed(ran, 1, "refused: 7 NoTarget", "a drain of all masters")
         ran = it.run("plan-drain", *cluster, "--from", "n3")
-        text = "error: --from and --to are nodes as n0,n2, and each is below --nodes\n"
+        text = "error: --from: 'n3' is no node of the cluster, which has n0 to n2\n"
         it.check("a drain of an unknown node", (ran.status, ran.out, ran.err) == (2, "", text), ran)
         weights_by_name(it, cluster)
         before = servers.moves()
@@ -270,6 +270,20 @@ def plans(it):
         it.check("nothing was moved", servers.moves() == before)
 
 
+def no_weights(text):
+    """What is told of weights that are none of three nodes."""
+    weight = r"(?:0|[1-9]\d{0,2}|1000)"
+    form = rf"n[012]={weight}" if "=" in text else weight
+    wrong = [word for word in text.split(",") if not re.fullmatch(form, word)]
+    if wrong and "=" in text:
+        return f"error: --weights: '{wrong[0]}' is no weight of a node, as n1=0, from 0 to 1000\n"
+    if wrong:
+        return f"error: --weights: '{wrong[0]}' is no weight, a number from 0 to 1000\n"
+    if "=" in text:
+        return "error: --weights: a node is given two weights\n"
+    return f"error: --weights: n0 to n2 want one each, given: {len(text.split(','))}\n"
+
+
 def weights_by_name(it, cluster):
     """Weights of some of three nodes: each other has 1."""
     for named, listed in [
@@ -282,19 +296,15 @@ def weights_by_name(it, cluster):
         ran = it.run("plan-rebalance", *cluster, "--weights", named)
         wanted = it.run("plan-rebalance", *cluster, "--weights", listed)
         it.check(f"the plan of {named} is that of {listed}",
-                 (wanted.status, ran.status, ran.out, ran.err) == (0, 0, wanted.out, ""), ran)
-    text = (
-        "error: --weights is one weight for each node, 0 to 1000, as 2,1,1, "
-        "or the weights of some, each node once, as n1=0,n2=2\n"
-    )
+                 (wanted.status, ran.status, ran.out, ran.err) == (0, 0, wanted.out, wanted.err), ran)
     for bad in [
         "n2=0,n2=1", "n2=1,n2=1", "n9=1", "n3=1", "n1", "1,n1=0", "n1=0,1", "n1=0,", ",n1=0", "", "n1=", "=1",
         "n1=1001", "n1=01", "n1=+1", "n1=1=1", "n01=1", "N1=1", "n1 =1", "1,1", "1,1,1,1", "1,1,1001",
     ]:
         ran = it.run("plan-rebalance", *cluster, "--weights", bad)
-        it.check(f"no weights: {bad!r}", (ran.status, ran.out, ran.err) == (2, "", text), ran)
+        it.check(f"no weights: {bad!r}", (ran.status, ran.out, ran.err) == (2, "", no_weights(bad)), ran)
     ran = it.run("plan-rebalance", "--nodes", 3, "--weights", "n2=0")
-    text = "error: --weights is one weight for each of --nodes, 0 to 1000, with commas between them\n"
+    text = "error: --weights: 'n2=0' is no weight, a number from 0 to 1000\n"
     it.check("with --nodes none is named", (ran.status, ran.out, ran.err) == (2, "", text), ran)
 
 

@@ -30,10 +30,10 @@ def difference(program, seed, number):
     """What the program did otherwise in this case, or None."""
     case = cases.case(random.Random(f"{seed} {number}"))
     done = subprocess.run([program, *case.words], input=case.given, capture_output=True, timeout=SECONDS, check=False)
-    if (done.stdout, done.returncode, done.stderr) == (case.output, case.status, b""):
+    if (done.stdout, done.returncode, done.stderr) == (case.output, case.status, case.errors):
         return None
     return (f"case {number} of seed {seed}: {' '.join(case.words)}\n  input    {case.given!r}\n"
-            f"  wanted   {case.output!r}, status {case.status}\n"
+            f"  wanted   {case.output!r}, status {case.status}, errors {case.errors!r}\n"
             f"  printed  {done.stdout!r}, status {done.returncode}, errors {done.stderr!r}")
 
 

@@ -29,6 +29,7 @@ class Case:
     given: bytes
     output: bytes
     status: int
+    errors: bytes = b""
 
 
 def nodes_and_even(chance):
@@ -128,10 +129,16 @@ def explain_case(chance):
                                                 as_json).encode(), 0)
 
 
-def planned(words, plan):
-    """A plan is printed as it is, a fault after `refused: `."""
-    is_plan = plan.startswith("reshard-plan")
-    return Case(words, b"", plan.encode() if is_plan else f"refused: {plan}\n".encode(), int(not is_plan))
+def planned(words, plan, nothing, too_many=""):
+    """A plan is printed as it is, a fault after `refused: `. Why there is nothing to move, and how many slots there are
+    where too many are asked for, is on standard error."""
+    is_plan, remark = plan.startswith("reshard-plan"), ""
+    if plan == "2 TooMany":
+        remark = too_many
+    elif is_plan and "move" not in plan:
+        remark = f"nothing to move: {nothing}\n"
+    output = plan if is_plan else f"refused: {plan}\n"
+    return Case(words, b"", output.encode(), int(not is_plan), remark.encode())
 
 
 def reshard_case(chance):
@@ -147,7 +154,9 @@ def reshard_case(chance):
     if chance.random() < 0.2:
         slots, count = "all", max(1, sum(owner in sources for owner in even_split(even)))
     words += ["--slots", slots, "--batch", f"{batch}"]
-    return planned(words, planners.reshard(even_split(even), nodes, sources, target, count, batch))
+    owned = sum(owner in sources for owner in even_split(even))
+    return planned(words, planners.reshard(even_split(even), nodes, sources, target, count, batch), "--slots is 0",
+                   f"slots of the nodes of --from: {owned}\n")
 
 
 def rebalance_case(chance):
@@ -157,7 +166,10 @@ def rebalance_case(chance):
     named = ",".join(map(str, weights))
     words = ["plan-rebalance", *words, "--weights", named, "--threshold", f"{threshold}", "--batch", "10"]
     plan = planners.rebalance(even_split(even), nodes, weights, threshold, use_empty, 10)
-    return planned([*words, "--use-empty"] if use_empty else words, plan)
+    nothing = "each node has its share, or is within --threshold of it"
+    if even < nodes and not use_empty:
+        nothing = "each node that has slots has its share; give --use-empty for the others"
+    return planned([*words, "--use-empty"] if use_empty else words, plan, nothing)
 
 
 def drain_case(chance):
@@ -168,7 +180,8 @@ def drain_case(chance):
     if chance.random() < 0.5:
         targets = [chance.randrange(nodes) for _ in range(chance.randint(1, 4))]
         words += ["--to", ",".join(f"n{target}" for target in targets)]
-    return planned([*words, "--batch", "100"], planners.drain(even_split(even), nodes, sources, targets, 100))
+    return planned([*words, "--batch", "100"], planners.drain(even_split(even), nodes, sources, targets, 100),
+                   "the nodes of --from own no slots")
 
 
 def escaped(word):
