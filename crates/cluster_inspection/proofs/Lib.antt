@@ -1,5 +1,3 @@
-<<<<<<< HEAD
-=======
 pub mod CleanOwners
 pub mod Filled
 pub mod Found
@@ -14,4 +12,3 @@ pub mod Told
 pub mod Unfound
 pub mod Unread
 pub mod VerifiedAt
->>>>>>> hb
