@@ -1,4 +1,5 @@
 pub mod CleanOwners
+pub mod FileRead
 pub mod Filled
 pub mod Found
 pub mod Lines
