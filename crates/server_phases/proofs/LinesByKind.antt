@@ -70,8 +70,10 @@ module _ (v : Survey) (p q : PlanView) (xs : List Line) (bare : q ≡ record p {
       ≤ (limits_of q.names).commands
   first_room =
       let all = count_kinds v (limits_of p.names) xs in
+      let fits : count (limits_of p.names) [] + count (limits_of p.names) (of_kind v true xs)
+      ≤ (limits_of p.names).commands = omega (arith, all, room) in
       subst (λ (x : PlanView). count (limits_of x.names) x.lines + count (limits_of x.names) (of_kind v true xs)
-      ≤ (limits_of x.names).commands) (sym bare) (omega (arith, all, room))
+      ≤ (limits_of x.names).commands) (sym bare) fits
 
   pub put_first : (r : PlanView) → r ≡ record q { lines = q.lines ++ of_kind v true xs }
       → r ≡ record p { lines = of_kind v true xs }
@@ -82,7 +84,9 @@ module _ (v : Survey) (p q : PlanView) (xs : List Line) (bare : q ≡ record p {
       ≤ (limits_of r.names).commands
   rest_room r ys put same =
       let all = count_kinds v (limits_of p.names) xs in
+      let fits : count (limits_of p.names) (of_kind v true xs) + count (limits_of p.names) (of_kind v false xs)
+      ≤ (limits_of p.names).commands = omega (arith, all, room) in
       subst (λ (zs : List Line). count (limits_of r.names) r.lines + count (limits_of r.names) (of_kind v false zs)
       ≤ (limits_of r.names).commands) same
       (subst (λ (x : PlanView). count (limits_of x.names) x.lines + count (limits_of x.names) (of_kind v false xs)
-      ≤ (limits_of x.names).commands) (sym (put_first r put)) (omega (arith, all, room)))
+      ≤ (limits_of x.names).commands) (sym (put_first r put)) fits)
