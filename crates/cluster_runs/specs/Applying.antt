@@ -19,6 +19,7 @@ use Rattle.cluster_runs.specs.Settings.{Setting, streams_in}
 use Rattle.cluster_runs.specs.declared.attempt.Attempt.{Attempt}
 use Rattle.cluster_runs.specs.declared.prepared.Prepared as prepared
 use Rattle.cluster_inspection.specs.Answers.{Answers}
+use Rattle.cluster_inspection.specs.Finding.{IsFoundAt, over_sockets}
 use Rattle.cluster_inspection.specs.Refusals.{TellsRefusalOf}
 use Rattle.cluster_inspection.specs.Returning.{AreAway, dead_ids}
 use Rattle.cluster_inspection.specs.Starts.{AreCleanOwners, IsExpectedBy, names_listed}
@@ -71,6 +72,7 @@ module _ {I O E : Type 0} (P H : Type 0) (x : Setting I O E) (g : ApplyWords) wh
     pub first : IsFirst g.timeout (most_keys 1 plan.lines) attempt
     pub ready : prepared.Prepared I O
     pub prepared : IsPreparedAtClean plan ready
+    pub at : IsFoundAt (over_sockets (streams_in x) x.login) g.cluster (names_listed plan) ready.servers
     pub expected : IsExpectedBy g.cluster.expect ready.servers.book
     pub away : AreAway (asks_of (streams_in x)) (dead_ids g.dead_for_good) (names_listed plan)
         ready.servers.left_out.items plan.lines

@@ -192,8 +192,8 @@ module _ {I O E : Type 0} (P H : Type 0) (x : Setting I O E) (g : ApplyWords) wh
 abbrev pub most_attempts : ℕ
 most_attempts = 400
 
--- So the last of the runs after this one ended, where the plan may continue so often: it was the last, or it is the last
--- after the one that follows it.
+-- So the last of the runs from this one on ended, where the plan may continue so often: this was the last, or it is the
+-- last from the one that follows.
 unfoldable pub IsEndBehind : {I O E : Type 0} → (P H : Type 0) → Setting I O E → ApplyWords → (left : ℕ)
     → (lines : PlanView) → Attempt → ran.Ran FileOut → Transcript → Type 0
 IsEndBehind P H x g zero lines a r t = t ≡ r.end

@@ -69,11 +69,10 @@ abbrev pub LogsLines : {L : Type 0} → (took : L → List ℕ → L → Type 0)
     → Option (RunLog L) → Type 0
 LogsLines took text log log' = LogsEach took (ended (parts 10 text)) log log'
 
--- What is ready was settled so, over connections to its servers. What was found stands on standard error, and in the
--- log, which continues this one.
+-- What is ready was settled so, from these connections to its servers on. What was found stands on standard error, and
+-- in the log, which continues this one.
 pub record IsSettledRest {I O E : Type 0} (x : Setting I O E) (a : Attempt) (log : Option (RunLog FileOut))
-    (r : prepared.Prepared I O) : Type 0 where
-  pub links : List (link.Link I O)
+    (links : List (link.Link I O)) (r : prepared.Prepared I O) : Type 0 where
   pub blank : MemoryOut
   pub empty : blank.bytes.items ≡ []
   pub told : MemoryOut

@@ -3,6 +3,7 @@ ghost use Rattle.std.specs.Prelude.{◌≡◌, ℕ, List, IfErr, IfOk, Ok, vec_l
 ghost use Rattle.cluster_runs.specs.Applying.{IsPlanInput};
 ghost use Rattle.cluster_runs.specs.Preparing.{IsPreparedAtClean, SaysCommands, moves_of, notes_text};
 ghost use Rattle.cluster_inspection.specs.Refusals.{IsRefusal, IsRefusalOf};
+ghost use Rattle.cluster_inspection.specs.Finding.{IsFoundAt, over_sockets};
 ghost use Rattle.cluster_inspection.specs.Returning.{AreAway, dead_ids};
 ghost use Rattle.cluster_inspection.specs.Starts.{IsClean, IsExpectedBy, IsNumberedBy, names_listed};
 ghost use Rattle.command_words.specs.Clusters.{IsApply};
@@ -66,6 +67,10 @@ pub(crate) fn prepare<
         (record { gave = R.gave; ends = R.ends; failures = R.failures; before = reader.old; after = reader.new }) input
         × (any_plan_of_text input ≡ Ok r.2)) }
     ensures prepared { IfOk result (λ r. IsPreparedAtClean r.2 r.0) }
+    ensures at { IfOk result (λ r. IsFoundAt (over_sockets (record {
+      gave = ⟦<ServerInput<'a, H> as ByteIn>⟧.gave;
+      took = ⟦<ServerOutput<'a, H> as ByteOut>⟧.took;
+    }) system.now.credentials.now) words.now.cluster (names_listed r.2) r.0.servers) }
     ensures expected { IfOk result (λ r. IsExpectedBy words.now.cluster.expect r.0.servers.book) }
     ensures says { IfOk result (λ r. SaysCommands r.2 r.0.servers.surveyed.survey r.1.printed.items) }
     ensures away { IfOk result (λ r. AreAway (asks_of (record {

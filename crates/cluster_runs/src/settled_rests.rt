@@ -96,7 +96,7 @@ pub(crate) fn settled<H: Clock, I: ByteIn + Drop, O: ByteOut + Drop, E: ByteOut>
           failures = E.failures;
           notes = Writes ⟦<MemoryOut as ByteOut>⟧.took ⟦<MemoryOut as ByteOut>⟧.failures;
         })
-        attempt.now log) }
+        attempt.now log prepared.servers.links.items) }
     ensures servers { IfOk result (λ p. (p.servers.book ≡ prepared.servers.book)
         × (p.servers.surveyed ≡ prepared.servers.surveyed)) }
     ensures left { IfOk result (λ p. p.servers.left_out ≡ prepared.servers.left_out) }

@@ -6,6 +6,7 @@ use Rattle.byte_streams.specs.Streams.{Input}
 use Rattle.cluster_inspection.specs.Refusals.{FailsToRead, IsNoClusterOf, IsNoPlanIn, plan_from}
 use Rattle.cluster_inspection.specs.Starts.{AreCleanOwners, IsUnfound, IsUnstarted, SaysNoStart, StartsFrom}
 use Rattle.cluster_inspection.specs.Starts.{names_listed}
+use Rattle.cluster_inspection.specs.VerifyingAt.{Counting}
 use Rattle.cluster_inspection.specs.declared.no_cluster.NoCluster.{NoCluster}
 use Rattle.cluster_inspection.specs.declared.no_cluster.NoCluster.TheVariants as none
 use Rattle.cluster_inspection.specs.declared.refusal.Refusal.{Refusal}
@@ -62,8 +63,9 @@ module _ {R : Type 0} (i : Input R) where
   plain_shown start book o plan p read from preview servers =
       (read.0, read.1, (plan, read.2, (o, (book, from), preview, servers)))
 
-  pub counted_shown : (plan : PlanView) (p : Preview) → IsRead any_plan_of_text i plan → IsPreviewAt plan p → IsCountedIn i p
-  counted_shown plan p read at = (read.0, read.1, (plan, read.2, at))
+  pub counted_shown : (counting : Counting) (plan : PlanView) (p : Preview) → IsRead any_plan_of_text i plan
+      → IsPreviewAt counting plan p → IsCountedIn counting i p
+  counted_shown counting plan p read at = (read.0, read.1, (plan, read.2, at))
 
   -- nothing is told, as the plan could not be read
   pub unread : (start : Start) (r : Refusal) → IsUnshown start i r → r ≡ refusal.Unread → FailsToRead i

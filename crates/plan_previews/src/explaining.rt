@@ -2,8 +2,9 @@
 ghost use Rattle.std.specs.Prelude.{◌≡◌, IfErr, IfOk, false, true};
 ghost use Rattle.byte_streams.specs.declared.reading.Unread.TheVariants as unread;
 ghost use Rattle.cluster_inspection.specs.Refusals.{FailsToRead};
+ghost use Rattle.cluster_inspection.specs.VerifyingAt.{counting_by};
 ghost use Rattle.command_words.specs.Starts.{IsStart};
-ghost use Rattle.plan_previews.specs.Explaining.{Explains, SaysExplained, explained_text};
+ghost use Rattle.plan_previews.specs.Explaining.{Explains, ExplainsBy, SaysExplained, explained_text};
 
 use crate::going_on::resume_text;
 use crate::looking::preview_from;
@@ -14,6 +15,7 @@ use cluster_inspection::{System, out_of_memory, report};
 use command_words::ExplainWords;
 use plan_json::json;
 use plan_pages::page;
+use server_links::{ServerInput, ServerOutput};
 use std::alloc::{AllocError, Global};
 use std::fs::{File, Files};
 use std::net::{Net, TcpListener, TcpStream};
@@ -24,12 +26,19 @@ use transcripts::Transcript;
 /// refused. The status is 0 where the plan is legal, and 1 where it is refused, there is no survey, memory ran out, or
 /// a read or write failed.
 pub fn explain_plan<
+    'a,
     H: Net<Listener = TcpListener, Stream = TcpStream> + Clock + Files<File = File> + AllocGlobal,
     R: ByteIn,
     W: ByteOut,
->(system: &System<'_, H>, words: &ExplainWords, reader: &mut R, writer: &mut W) -> u8
+>(system: &System<'a, H>, words: &ExplainWords, reader: &mut R, writer: &mut W) -> u8
     requires { IsStart words.now.start }
-    ensures { Explains words.now
+    ensures explains { Explains words.now
+        (record { gave = R.gave; ends = R.ends; failures = R.failures; before = reader.old; after = reader.new })
+        (record { took = W.took; failures = W.failures; before = writer.old; after = writer.new }) result }
+    ensures counted { ExplainsBy (counting_by (record {
+      gave = ⟦<ServerInput<'a, H> as ByteIn>⟧.gave;
+      took = ⟦<ServerOutput<'a, H> as ByteOut>⟧.took;
+    })) words.now
         (record { gave = R.gave; ends = R.ends; failures = R.failures; before = reader.old; after = reader.new })
         (record { took = W.took; failures = W.failures; before = writer.old; after = writer.new }) result }
 {
@@ -42,11 +51,15 @@ pub fn explain_plan<
 
 /// What there is to write.
 fn explanation<
+    'a,
     H: Net<Listener = TcpListener, Stream = TcpStream> + Clock + Files<File = File> + AllocGlobal,
     R: ByteIn,
->(system: &System<'_, H>, words: &ExplainWords, reader: &mut R) -> Result<Transcript, Unread>
+>(system: &System<'a, H>, words: &ExplainWords, reader: &mut R) -> Result<Transcript, Unread>
     requires { IsStart words.now.start }
-    ensures answer { IfOk result (λ t. SaysExplained words.now
+    ensures answer { IfOk result (λ t. SaysExplained (counting_by (record {
+      gave = ⟦<ServerInput<'a, H> as ByteIn>⟧.gave;
+      took = ⟦<ServerOutput<'a, H> as ByteOut>⟧.took;
+    })) words.now
         (record { gave = R.gave; ends = R.ends; failures = R.failures; before = reader.old; after = reader.new })
         t.status t.printed.items) }
     ensures unread { IfErr result (λ e. e ≡ unread.Failed → FailsToRead

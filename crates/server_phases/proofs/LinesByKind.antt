@@ -1,11 +1,13 @@
 -- The lines of a plan by whether they tell what the slot's owner tells already.
 use Rattle.std.proofs.Common.{◌≡◌, ℕ, ◌+◌, ◌<◌, ◌≤◌, Bool, true, false, cond, not, List, [], ◌∷◌, ◌++◌, length, drop, take, get_or}
-use Rattle.std.proofs.Common.{append-nil, refl, sym, ap, ◌∙◌, arith}
+use Rattle.std.proofs.Common.{append-nil, refl, subst, sym, ap, ◌∙◌, arith}
 use Rattle.std.proofs.lemmas.List.{take-append-drop, take_more}
 use Rattle.std.proofs.lemmas.List.Elements.{filter-append}
 use Rattle.cluster_views.proofs.Firsts.{drop_item}
 use Rattle.cluster_admin.specs.Surveys.{Survey}
+use Rattle.plan_language.specs.Limits.{limits_of}
 use Rattle.plan_language.specs.Lines.{count, line_count}
+use Rattle.plan_language.specs.PlanView.{PlanView}
 use Rattle.plan_language.specs.declared.limits.Limits.{Limits}
 use Rattle.plan_language.specs.declared.line.Line.{Line}
 use Rattle.server_phases.specs.ToldFirst.{is_of_kind, is_told, of_kind}
@@ -59,3 +61,32 @@ kind_room v told l old xs i x lt is of room =
     ap (count l) (parted v told xs i x lt is) ∙ count-append l before (of_kind v told (x ∷ drop (i + 1) xs))
     ∙ ap (λ b. count l before + count l (cond b (x ∷ after) after)) of in
     omega (arith, parts, count-append l old before, room)
+
+-- ---- in an empty plan there is room for the one kind, and then for the other
+
+module _ (v : Survey) (p q : PlanView) (xs : List Line) (bare : q ≡ record p { lines = [] })
+    (room : count (limits_of p.names) xs ≤ (limits_of p.names).commands) where
+  pub first_room : count (limits_of q.names) q.lines + count (limits_of q.names) (of_kind v true xs)
+      ≤ (limits_of q.names).commands
+  first_room =
+      let all = count_kinds v (limits_of p.names) xs in
+      let fits : count (limits_of p.names) [] + count (limits_of p.names) (of_kind v true xs)
+      ≤ (limits_of p.names).commands = omega (arith, all, room) in
+      subst (λ (x : PlanView). count (limits_of x.names) x.lines + count (limits_of x.names) (of_kind v true xs)
+      ≤ (limits_of x.names).commands) (sym bare) fits
+
+  pub put_first : (r : PlanView) → r ≡ record q { lines = q.lines ++ of_kind v true xs }
+      → r ≡ record p { lines = of_kind v true xs }
+  put_first r put = put ∙ ap (λ (x : PlanView). record x { lines = x.lines ++ of_kind v true xs }) bare
+
+  pub rest_room : (r : PlanView) (ys : List Line) → r ≡ record q { lines = q.lines ++ of_kind v true xs } → xs ≡ ys
+      → count (limits_of r.names) r.lines + count (limits_of r.names) (of_kind v false ys)
+      ≤ (limits_of r.names).commands
+  rest_room r ys put same =
+      let all = count_kinds v (limits_of p.names) xs in
+      let fits : count (limits_of p.names) (of_kind v true xs) + count (limits_of p.names) (of_kind v false xs)
+      ≤ (limits_of p.names).commands = omega (arith, all, room) in
+      subst (λ (zs : List Line). count (limits_of r.names) r.lines + count (limits_of r.names) (of_kind v false zs)
+      ≤ (limits_of r.names).commands) same
+      (subst (λ (x : PlanView). count (limits_of x.names) x.lines + count (limits_of x.names) (of_kind v false xs)
+      ≤ (limits_of x.names).commands) (sym (put_first r put)) fits)

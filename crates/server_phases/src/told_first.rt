@@ -13,7 +13,6 @@ use plan_language::{Line, Plan, PlanCommand};
 /// a slot is told, it may claim the slot with a config epoch of its own, which another slot that it takes over would
 /// raise (the page of Redis Cluster's specification, "Hash slots configuration propagation"). Beside that the lines keep
 /// their order.
-#[tactic(auto, using(crate::proofs::LinesByKind::count_kinds))]
 pub(crate) fn told_first(rests: &Plan, survey: &Survey) -> Result<Plan, Memory>
     requires version { rests.now.version ≡ 3 }
     ensures { IfOk result (λ plan. plan ≡ record rests.now { lines = told_first survey.now rests.now.lines }) }

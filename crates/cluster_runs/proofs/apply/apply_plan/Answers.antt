@@ -38,6 +38,7 @@ returns-in-Ok-clause-asked g c =
       };
       ready = c.in-Ok.prepared;
       prepared = c.in-Ok.ensures.prepared;
+      at = c.in-Ok.ensures.at;
       expected = c.in-Ok.ensures.expected;
       away = c.in-Ok.ensures.away;
       count = c.in-Ok.count.printed.items;

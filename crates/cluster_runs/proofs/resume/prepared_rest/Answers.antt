@@ -15,9 +15,9 @@ returns-clause-left g c =
       says_after before after c.in-Some.count.printed.items settled.same says,
       (
         c.in_ok-log.log,
-        ready_again _ c.args.words.now.run c.args.lines.now c.args.attempt.now c.in_ok-log.log _ _ before
-            c.in_ok-servers.servers c.in-Some.plan (Ok after) found c.in_ok-servers.ensures.expected same refl refl
-            c.in_ok-check_returning.ensures.away settled.prepared settled.settled settled.servers settled.left
+        ready_again _ c.args.words.now.run c.args.lines.now c.args.attempt.now c.in_ok-log.log _ _ c.names_listed.result.now
+            before c.in_ok-servers.servers c.in-Some.plan (Ok after) found c.in_ok-servers.ensures.expected same refl refl
+            c.names_listed.ensures.value c.in_ok-servers.ensures.at c.in_ok-check_returning.ensures.away settled.prepared settled.settled settled.servers settled.left
             settled.same settled.targets,
       ),
     )

@@ -8,7 +8,7 @@ returns-in_ok-check_returning-in-Some-clause-ready g c =
     let found : before.servers ≡ c.in_ok-servers.servers = search rules in
     let same : c.in-Some.plan ≡ before.plan.plan = search rules in
     let settled = c.settled.ensures in
-    ready_again _ c.args.words.now c.args.lines.now c.args.attempt.now c.args.log _ _ before c.in_ok-servers.servers
+    ready_again _ c.args.words.now c.args.lines.now c.args.attempt.now c.args.log _ _ c.names_listed.result.now before c.in_ok-servers.servers
     c.in-Some.plan c.settled.result found c.in_ok-servers.ensures.expected same refl refl
-    c.in_ok-check_returning-in-Some.ensures.away settled.prepared settled.settled settled.servers settled.left settled.same
+    c.names_listed.ensures.value c.in_ok-servers.ensures.at c.in_ok-check_returning-in-Some.ensures.away settled.prepared settled.settled settled.servers settled.left settled.same
     settled.targets

@@ -18,7 +18,7 @@ returns-in-Err-clause-answer g c =
       before = c.args.reader.now;
       after = c.preview_from.new.reader;
     } in
-    IfOk-weaker c.refused.result _ _ (λ t is. refused_says c.args.words.now read c.in-Err.refusal t c.in-Err.ensures.unshown is)
+    IfOk-weaker c.refused.result _ _ (λ t is. refused_says _ c.args.words.now read c.in-Err.refusal t c.in-Err.ensures.unshown is)
     c.refused.ensures.answer
 
 pub returns-in-Err-clause-unread : goal.returns-in-Err-clause-unread

@@ -6,12 +6,14 @@ use Rattle.server_phases.proofs.resuming.rests.Goals as goal
 pub told_first-requires : goal.told_first-requires
 told_first-requires c =
     let phases = c.in-Ok.ensures.phases in
-    ap (λ (p : PlanView). p.version) (c.in-Ok.ensures.exact.1 (λ s. (phases s).0) (λ s. (phases s).1))
+    record {
+      version = ap (λ (p : PlanView). p.version) (c.in-Ok.ensures.exact.1 (λ s. (phases s).0) (λ s. (phases s).1));
+    }
 
 pub returns-in_ok-told_first-in-Ok : goal.returns-in_ok-told_first-in-Ok
 returns-in_ok-told_first-in-Ok c =
     let phases = c.in-Ok.ensures.phases in
-    let is = c.in_ok-told_first.ensures in
+    let is = c.in_ok-told_first-in-Ok.ensures in
     let whole = c.in-Ok.ensures.exact.1 (λ s. (phases s).0) (λ s. (phases s).1) in
     record {
       open_slots = phases;
