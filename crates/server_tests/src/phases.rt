@@ -47,12 +47,12 @@ const LINES: &[u8] = b"\
 
 const PLAN: &[u8] = b"\
         reshard-plan 3\n\
+        setslot 30 node n1 at n0\n\
+        setslot 30 node n1 at n2\n\
         drain 24 at n0 to n1 by 100\n\
         setslot 24 node n1 at n1\n\
         setslot 24 node n1 at n0\n\
         setslot 24 node n1 at n2\n\
-        setslot 30 node n1 at n0\n\
-        setslot 30 node n1 at n2\n\
         move 23 from n0 to n1 by 7\n\
         move 25-29 from n0 to n1 by 7\n\
         move 31-32 from n0 to n1 by 7\n\
