@@ -238,8 +238,8 @@ def surveyed(it):
             told, wanted = (it.run(*words, *start, plan=plan).out for start in (by_file, cluster))
             same = told == wanted if words == ["draw"] else told.splitlines()[:1] == wanted.splitlines()[:1]
             it.check(f"{words[0]} by the file", told and same, told[-200:])
-        swapped = ran.out.replace(servers.ids[0], "x").replace(servers.ids[1], servers.ids[0]).replace("x", servers.ids[1])
-        path.write_text(swapped)
+        first, second = servers.ids[:2]
+        path.write_text(ran.out.replace(first, "x").replace(second, first).replace("x", second))
         told = it.run("verify", *by_file, plan=plan)
         it.check("the names of the plan count", told.status == 1 and "2 NotOwner" in told.out, told)
 

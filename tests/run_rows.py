@@ -51,7 +51,8 @@ def differences(program, row):
     words = shlex.split(row.read_text())
     status = int(bytes_of(row.with_suffix(".status")) or b"0")
     try:
-        ran = subprocess.run([program, *words], input=input_of(row), capture_output=True, timeout=SECONDS, cwd=row.parent)
+        ran = subprocess.run(
+            [program, *words], input=input_of(row), capture_output=True, timeout=SECONDS, cwd=row.parent)
     except subprocess.TimeoutExpired:
         return [f"  still running after {SECONDS} seconds"]
     except (OSError, subprocess.CalledProcessError) as error:
