@@ -10,6 +10,6 @@ pub mod Shown
 pub mod Started
 pub mod StrandedLines
 pub mod Told
-pub mod Unfound
+pub mod NoSurvey
 pub mod Unread
 pub mod VerifiedAt

@@ -72,7 +72,7 @@ IsNoPlan parsed refusal.Memory = Unit {0}
 IsNoPlan parsed refusal.Unread = ⊥
 IsNoPlan parsed (refusal.Answer t) = TellsNoPlan parsed t
 
--- the plan that a text is where it starts from an even split; for a cluster of servers, or its survey, it may list nodes
+-- the plan that a text is where it starts from an even split; for a cluster of servers or its survey it may list nodes
 abbrev pub plan_from : Start → List ℕ → Parsed
 plan_from (Even s) text = plan_of_text text
 plan_from (Cluster g) text = any_plan_of_text text

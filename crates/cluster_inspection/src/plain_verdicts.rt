@@ -23,8 +23,8 @@ use transcripts::{Transcript, verify_and_report};
 
 /// Verifies the plan that the reader gives where it starts, and writes the line that says how many commands the plan
 /// stands for, or why it is refused. Keys are not counted. The plan is read first, so where it is none that is told,
-/// whatever it would start from. The status is 0 where the plan is accepted, and 1 where it is refused, there is nothing
-/// to start from, memory ran out, or a read or write failed.
+/// whatever it would start from. The status is 0 where the plan is accepted, and 1 where it is refused, there is
+/// nothing to start from, memory ran out, or a read or write failed.
 pub fn verify_plainly<
     H: Net<Listener = TcpListener, Stream = TcpStream> + Clock + Files<File = File> + AllocGlobal,
     R: ByteIn,
