@@ -10,8 +10,9 @@ use Rattle.server_runs.specs.declared.watch.Watch as watch
 use Rattle.transcripts.specs.Writing.{Writes}
 use Rattle.transcripts.specs.declared.transcript.Transcript.{Transcript}
 use Rattle.cluster_inspection.specs.Refusals.{SaysRefusal}
-use Rattle.cluster_runs.proofs.Applied.{carried_out, told_end}
-use Rattle.cluster_runs.specs.Applying.{EndsRun}
+use Rattle.byte_streams.specs.Streams.{Output}
+use Rattle.cluster_runs.proofs.Applied.{carried_out, runs_as, told_end}
+use Rattle.cluster_runs.specs.Applying.{EndsRun, Runs}
 use Rattle.cluster_runs.specs.Attempts.{Continues}
 use Rattle.cluster_runs.specs.Continuing.{IsReadyAgain}
 use Rattle.cluster_runs.specs.Ends.{IsEnd}
@@ -63,6 +64,11 @@ module _ {I O E : Type 0} (P H : Type 0) (x : Setting I O E) (g : ApplyWords) wh
       → EndsRun P H x g a ready lines status text → IsEnd status text
   ends_run a ready lines status text (t, last, said, told) =
       subst₂ (λ s t. IsEnd s t) said told (last_ended a ready lines t last)
+
+  pub runs_plain : {W : Type 0} (a : Attempt) (ready : prepared.Prepared I O) (lines : PlanView) (count : List ℕ)
+      (o : Output W) (status : ℕ) → Runs (EndsRun P H x g a ready lines) count o status → Runs IsEnd count o status
+  runs_plain a ready lines count o status ran =
+      runs_as (EndsRun P H x g a ready lines) IsEnd count o status (ends_run a ready lines) ran
 
   -- ---- what follows a run
 

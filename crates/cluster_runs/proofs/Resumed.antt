@@ -3,8 +3,7 @@ use Rattle.std.proofs.Common.{◌≡◌, ℕ, Option, None, Some, inl, inr, subs
 use Rattle.std.specs.Prelude.{MatchOption}
 use Rattle.byte_streams.specs.Streams.{Output}
 use Rattle.command_words.specs.declared.usage.ResumeWords.{ResumeWords}
-use Rattle.cluster_runs.proofs.Applied.{runs_as}
-use Rattle.cluster_runs.proofs.Ended.{ends_run}
+use Rattle.cluster_runs.proofs.Ended.{runs_plain}
 use Rattle.cluster_runs.proofs.RestPlans.{counted}
 use Rattle.cluster_runs.specs.Rests.{IsOpenCount}
 use Rattle.cluster_runs.specs.Resuming.{GoesOn, GoesOnAt}
@@ -18,7 +17,7 @@ goes_as P H x g o status (inl ran) = inl (
   ran.are,
   subst (λ b. IsOpenCount b ran.lines ran.count) ran.first.batch
       (counted ran.attempt.batch ran.lines ran.rest ran.count ran.ready.prepared ran.says),
-  runs_as _ _ ran.count o status (ends_run P H x g.run ran.attempt ran.rest ran.lines) ran.runs,
+  runs_plain P H x g.run ran.attempt ran.rest ran.lines ran.count o status ran.runs,
 )
 goes_as P H x g o status (inr other) = inr other
 

@@ -1,8 +1,7 @@
 use Rattle.std.proofs.Common.{◌∙◌, inl, inr, refl}
 use Rattle.cluster_inspection.specs.Starts.{owners_told}
 use Rattle.cluster_inspection.proofs.CleanOwners.{clean_owners}
-use Rattle.cluster_runs.proofs.Applied.{runs_as}
-use Rattle.cluster_runs.proofs.Ended.{ends_run}
+use Rattle.cluster_runs.proofs.Ended.{runs_plain}
 use Rattle.cluster_runs.proofs.apply.apply_plan.Goals as goal
 
 pub returns-in-Ok-clause-applies : goal.returns-in-Ok-clause-applies
@@ -15,8 +14,9 @@ returns-in-Ok-clause-applies g c =
       c.in-Ok.count.printed.items,
       read.1,
       (owners_told v, c.in-Ok.plan, clean_owners _ _ v _ _ _ ready.found ready.numbered ready.clean refl, read.2, c.in-Ok.ensures.says),
-      runs_as _ _ c.in-Ok.count.printed.items _ c.run.result
-          (ends_run _ _ _ c.args.words.now c.new-attempt.result c.in-Ok.prepared c.in-Ok.plan) c.run.ensures,
+      runs_plain _ _ _ c.args.words.now c.new-attempt.result c.in-Ok.prepared c.in-Ok.plan c.in-Ok.count.printed.items
+          (record { took = g.W.ByteOut.took; failures = g.W.ByteOut.failures; before = c.args.writer.now; after = c.run.new.writer })
+          c.run.result c.run.ensures,
     )
 
 pub returns-in-Ok-clause-asked : goal.returns-in-Ok-clause-asked

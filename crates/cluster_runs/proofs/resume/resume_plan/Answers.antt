@@ -10,14 +10,18 @@ returns-clause-status g c =
     c.look_further.result
     (goes_few c.args.words.now
     (record { took = g.W.ByteOut.took; failures = g.W.ByteOut.failures; before = c.args.writer.now; after = c.go_on-status.new.writer })
-    c.go_on-status.result (goes_as _ _ _ c.args.words.now _ c.go_on-status.result c.go_on-status.ensures))
+    c.go_on-status.result (goes_as _ _ _ c.args.words.now
+    (record { took = g.W.ByteOut.took; failures = g.W.ByteOut.failures; before = c.args.writer.now; after = c.go_on-status.new.writer })
+    c.go_on-status.result c.go_on-status.ensures))
     c.look_further.ensures
 
 pub returns-clause-resumes : goal.returns-clause-resumes
 returns-clause-resumes g c = (
   c.go_on-status.new.writer,
   c.go_on-status.result,
-  goes_as _ _ _ c.args.words.now _ c.go_on-status.result c.go_on-status.ensures,
+  goes_as _ _ _ c.args.words.now
+      (record { took = g.W.ByteOut.took; failures = g.W.ByteOut.failures; before = c.args.writer.now; after = c.go_on-status.new.writer })
+      c.go_on-status.result c.go_on-status.ensures,
   looks_as _ _ c.args.words.now.run.plan c.go_on-status.result
       (record { took = g.W.ByteOut.took; failures = g.W.ByteOut.failures; before = c.go_on-status.new.writer; after = c.look_further.new.writer })
       c.look_further.result (some_stranded _) c.look_further.ensures,
