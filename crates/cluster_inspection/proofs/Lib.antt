@@ -4,12 +4,12 @@ pub mod Filled
 pub mod Found
 pub mod Lines
 pub mod Listing
-pub mod NotFound
 pub mod Returned
 pub mod Same
 pub mod Shown
 pub mod Started
 pub mod StrandedLines
 pub mod Told
+pub mod NoSurvey
 pub mod Unread
 pub mod VerifiedAt

@@ -1,6 +1,6 @@
 use Rattle.byte_streams.specs.Streams.{Input}
 use Rattle.cluster_inspection.proofs.Started.{no_cluster_refusal, refusal_of, refusals_of}
-use Rattle.cluster_inspection.proofs.NotFound.{refused_unfound}
+use Rattle.cluster_inspection.proofs.NoSurvey.{refused_unfound}
 use Rattle.cluster_inspection.proofs.verify.answer_at.Goals as goal
 
 pub returns-in_err-servers-clause-refusal : goal.returns-in_err-servers-clause-refusal

@@ -2,7 +2,7 @@ use Rattle.std.proofs.Common.{◌≡◌, rules}
 use Rattle.std.proofs.lemmas.Result.{err_from_is_err_and}
 use Rattle.byte_streams.specs.Streams.{Input}
 use Rattle.cluster_inspection.proofs.Started.{no_cluster_refusal, refusal_of, refusals_of}
-use Rattle.cluster_inspection.proofs.NotFound.{refused_unfound}
+use Rattle.cluster_inspection.proofs.NoSurvey.{refused_unfound}
 use Rattle.cluster_runs.proofs.Settled.{found_there}
 use Rattle.cluster_runs.proofs.preparing.prepare.Goals as goal
 
