@@ -281,7 +281,7 @@ def no_weights(text):
         return f"error: --weights: '{wrong[0]}' is no weight, a number from 0 to 1000\n"
     if "=" in text:
         return "error: --weights: a node is given two weights\n"
-    return f"error: --weights: n0 to n2 want one each, given: {len(text.split(','))}\n"
+    return "error: --weights: n0 to n2 want one weight each\n"
 
 
 def weights_by_name(it, cluster):

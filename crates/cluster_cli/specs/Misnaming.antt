@@ -1,6 +1,6 @@
 -- What is reported of words that name no nodes of the cluster, or give no weights: which word is wrong, and the option.
-use Rattle.std.specs.Prelude.{ℕ, ◌-◌, Bool, cond, false, true, ◌&&◌, ◌==◌, List, [], ◌∷◌, ◌++◌, Option, None, Some, codes}
-use Rattle.std.specs.Prelude.{decimal, is_some, length, option_map, string_bytes, unwrap_or}
+use Rattle.std.specs.Prelude.{ℕ, ◌-◌, Bool, cond, false, true, ◌&&◌, List, [], ◌∷◌, ◌++◌, Option, None, Some, codes}
+use Rattle.std.specs.Prelude.{decimal, is_some, nat_eq, option_map, string_bytes, unwrap_or}
 use Rattle.std.specs.List.{list_any}
 use Rattle.byte_texts.specs.Decimals.{number_in}
 use Rattle.byte_texts.specs.Parts.{parts}
@@ -51,13 +51,11 @@ abbrev pub first_no_weight : List (List ℕ) → Option (List ℕ)
 first_no_weight [] = None
 first_no_weight (word ∷ words) = cond (is_some (number_in 0 1000 word)) (first_no_weight words) (Some word)
 
--- `error: --weights: 'x' is no weight, a number from 0 to 1000`, or `error: --weights: n0 to n2 want one each, given: 2`
-abbrev pub unlisted_weights : (nodes given : ℕ) → (wrong : Option (List ℕ)) → List ℕ
-unlisted_weights n given (Some word) =
+-- `error: --weights: 'x' is no weight, a number from 0 to 1000`, or `error: --weights: n0 to n2 want one weight each`
+abbrev pub unlisted_weights : (nodes : ℕ) → (wrong : Option (List ℕ)) → List ℕ
+unlisted_weights n (Some word) =
     codes "error: --weights: '" ++ (word ++ codes "' is no weight, a number from 0 to 1000\n")
-unlisted_weights n given None =
-    codes "error: --weights: n0 to n" ++ (decimal (n - 1) ++ (codes " want one each, given: "
-    ++ (decimal given ++ codes "\n")))
+unlisted_weights n None = codes "error: --weights: n0 to n" ++ (decimal (n - 1) ++ codes " want one weight each\n")
 
 -- the first that gives no node a weight
 abbrev pub first_no_item : (nodes : ℕ) → List (List ℕ) → Option (List ℕ)
@@ -76,13 +74,16 @@ knows_names (Even s) = false
 knows_names (Cluster g) = true
 knows_names (Survey path) = true
 
+abbrev pub has_name : (text : List ℕ) → Bool
+has_name text = list_any (λ b. nat_eq b 61) text
+
 abbrev pub is_by_name : Start → (text : List ℕ) → Bool
-is_by_name start text = knows_names start && list_any (λ b. b == 61) text
+is_by_name start text = knows_names start && has_name text
 
 abbrev pub misnamed_weights_in : (nodes : ℕ) → Start → (text : List ℕ) → List ℕ
 misnamed_weights_in n start text =
     cond (is_by_name start text) (unnamed_weights (first_no_item n (parts 44 text)))
-    (unlisted_weights n (length (parts 44 text)) (first_no_weight (parts 44 text)))
+    (unlisted_weights n (first_no_weight (parts 44 text)))
 
 abbrev pub misnamed_weights : (nodes : ℕ) → RebalanceWords → List ℕ
 misnamed_weights n g = misnamed_weights_in n g.start (unwrap_or (option_map string_bytes g.weights) [])

@@ -1,8 +1,8 @@
 //! Which word names no node of the cluster, or gives no weight.
-ghost use Rattle.std.specs.Prelude.{◌≡◌, ◌≤◌, ◌++◌, IfOk, map, option_map, string_bytes};
-ghost use Rattle.cluster_cli.specs.Misnaming.{first_no_item, first_no_weight, first_unnamed, is_by_name, knows_names};
+ghost use Rattle.std.specs.Prelude.{◌≡◌, ◌≤◌, ◌++◌, IfOk, codes, map, option_map};
+ghost use Rattle.cluster_cli.specs.Misnaming.{first_no_item, first_no_weight, first_unnamed, has_name, is_by_name};
 ghost use Rattle.cluster_cli.specs.Misnaming.{misnamed_drain, misnamed_nodes, misnamed_weights, misnamed_weights_in};
-ghost use Rattle.cluster_cli.specs.Misnaming.{no_node_text, unlisted_weights, unnamed_in, unnamed_weights};
+ghost use Rattle.cluster_cli.specs.Misnaming.{knows_names, no_node_text, unlisted_weights, unnamed_in, unnamed_weights};
 
 use crate::node_lists::node_in;
 use crate::weights_by_name::item_of;
@@ -73,11 +73,10 @@ fn misnamed_weights_in(
     ensures { IfOk result (λ t. t.items ≡ misnamed_weights_in nodes start.now text.now) }
 {
     let words = part_list(alloc, text, b',')?;
-    let words = words.as_slice();
     if is_by_name(start, text) {
-        unnamed_weights(alloc, first_no_item(words, nodes))
+        unnamed_weights(alloc, words.as_slice(), nodes)
     } else {
-        unlisted_weights(alloc, nodes, words.len(), first_no_weight(words))
+        unlisted_weights(alloc, words.as_slice(), nodes)
     }
 }
 
@@ -85,7 +84,13 @@ fn misnamed_weights_in(
 fn is_by_name(start: &Start, text: &[u8]) -> bool
     ensures { result ≡ is_by_name start.now text.now }
 {
-    knows_names(start) && text.iter().any(|byte| *byte == b'=')
+    knows_names(start) && has_name(text)
+}
+
+fn has_name(text: &[u8]) -> bool
+    ensures { result ≡ has_name text.now }
+{
+    text.iter().any(|byte| *byte == b'=')
 }
 
 /// Whether nodes may be given their weights by name where a plan starts so.
@@ -147,60 +152,52 @@ fn no_node_text(alloc: Global, option: &str, word: &[u8], nodes: u8) -> Result<V
     ensures { IfOk result (λ t. t.items ≡ no_node_text option.now word.now nodes) }
 {
     let last = nodes - 1;
-    let head = format!(in alloc; "error: {option}: '")?;
     let tail = format!(in alloc; "' is no node of the cluster, which has n0 to n{last}\n")?;
-    joined(head, word, &tail)
-}
-
-/// What is reported of weights of which this one is none, or which are too many or too few.
-fn unlisted_weights(
-    alloc: Global,
-    nodes: u8,
-    given: usize,
-    wrong: Option<&[u8]>,
-) -> Result<Vec<u8>, AllocError>
-    requires { 1 ≤ nodes }
-    ensures { IfOk result (λ t. t.items ≡ unlisted_weights nodes given (option_map (λ w. w.now) wrong)) }
-{
-    let last = nodes - 1;
-    match wrong {
-        Some(word) => {
-            let head = format!(in alloc; "error: --weights: '")?;
-            let tail = format!(in alloc; "' is no weight, a number from 0 to 1000\n")?;
-            joined(head, word, &tail)
-        }
-        None => {
-            let text = format!(in alloc;
-                "error: --weights: n0 to n{last} want one each, given: {given}\n"
-            )?;
-            Ok(text.into_bytes())
-        }
-    }
-}
-
-/// What is reported of weights by name, of which this one is none of a node, or two are of one node.
-fn unnamed_weights(alloc: Global, wrong: Option<&[u8]>) -> Result<Vec<u8>, AllocError>
-    ensures { IfOk result (λ t. t.items ≡ unnamed_weights (option_map (λ w. w.now) wrong)) }
-{
-    match wrong {
-        Some(item) => {
-            let head = format!(in alloc; "error: --weights: '")?;
-            let tail = format!(in alloc; "' is no weight of a node, as n1=0, from 0 to 1000\n")?;
-            joined(head, item, &tail)
-        }
-        None => {
-            let text = format!(in alloc; "error: --weights: a node is given two weights\n")?;
-            Ok(text.into_bytes())
-        }
-    }
-}
-
-/// The word between the two texts.
-fn joined(head: String, word: &[u8], tail: &String) -> Result<Vec<u8>, AllocError>
-    ensures { IfOk result (λ t. t.items ≡ string_bytes head ++ (word.now ++ string_bytes tail.now)) }
-{
-    let mut text = head.into_bytes();
+    let mut text = Vec::from_slice(alloc, b"error: ")?;
+    text.extend_from_slice(option.as_bytes())?;
+    text.extend_from_slice(b": '")?;
     text.extend_from_slice(word)?;
     text.extend_from_slice(tail.as_bytes())?;
+    Ok(text)
+}
+
+/// What is reported of weights that are listed, of which one is none, or which are too many or too few.
+fn unlisted_weights(alloc: Global, words: &[&[u8]], nodes: u8) -> Result<Vec<u8>, AllocError>
+    requires { 1 ≤ nodes }
+    ensures { IfOk result (λ t. t.items
+        ≡ unlisted_weights nodes (first_no_weight (map (λ w. w.now) words.now))) }
+{
+    match first_no_weight(words) {
+        Some(word) => wrong_weight(alloc, word, b"' is no weight, a number from 0 to 1000\n"),
+        None => {
+            let last = nodes - 1;
+            let text = format!(in alloc; "error: --weights: n0 to n{last} want one weight each\n")?;
+            Ok(text.into_bytes())
+        }
+    }
+}
+
+/// What is reported of weights by name, of which one is none of a node, or two are of one node.
+fn unnamed_weights(alloc: Global, items: &[&[u8]], nodes: u8) -> Result<Vec<u8>, AllocError>
+    ensures { IfOk result (λ t. t.items
+        ≡ unnamed_weights (first_no_item nodes (map (λ w. w.now) items.now))) }
+{
+    match first_no_item(items, nodes) {
+        Some(item) => wrong_weight(
+            alloc,
+            item,
+            b"' is no weight of a node, as n1=0, from 0 to 1000\n",
+        ),
+        None => Vec::from_slice(alloc, b"error: --weights: a node is given two weights\n"),
+    }
+}
+
+/// The word in its quotes, with what it is not.
+fn wrong_weight(alloc: Global, word: &[u8], tail: &[u8]) -> Result<Vec<u8>, AllocError>
+    ensures { IfOk result (λ t. t.items ≡ codes "error: --weights: '" ++ (word.now ++ tail.now)) }
+{
+    let mut text = Vec::from_slice(alloc, b"error: --weights: '")?;
+    text.extend_from_slice(word)?;
+    text.extend_from_slice(tail)?;
     Ok(text)
 }
