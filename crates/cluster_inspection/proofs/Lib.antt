@@ -1,7 +1,6 @@
 pub mod CleanOwners
 pub mod FileRead
 pub mod Filled
-pub mod Found
 pub mod Lines
 pub mod Listing
 pub mod Returned
@@ -10,6 +9,5 @@ pub mod Shown
 pub mod Started
 pub mod StrandedLines
 pub mod Told
-pub mod NoSurvey
 pub mod Unread
 pub mod VerifiedAt

@@ -2,7 +2,13 @@
 use Rattle.std.proofs.Common.{◌≡◌, ◌≢◌, ◌≤◌, ◌⊎◌, ℕ, List, inl, inr, codes, take, arith, subst, sym, ◌∙◌}
 use Rattle.byte_streams.specs.Streams.{Output}
 use Rattle.transcripts.specs.Writing.{Writes}
-use Rattle.cluster_inspection.specs.Answers.{IsReported, Tells}
+use Rattle.cluster_inspection.specs.Answers.{Tells}
+
+-- what becomes of an answer that is reported
+abbrev pub IsReported : {W : Type 0} → Output W → (said : ℕ) → (text : List ℕ) → (status : ℕ) → Type 0
+IsReported o said text status =
+    ((status ≡ said) × o.took o.before text o.after × (o.failures o.after ≡ o.failures o.before))
+    ⊎ ((status ≡ 1) × ((n : ℕ) × o.took o.before (take n text) o.after) × (o.failures o.after ≢ o.failures o.before))
 
 pub told : {W : Type 0} (says : ℕ → List ℕ → Type 0) (took : W → List ℕ → W → Type 0) (failures : W → ℕ)
     (said : ℕ) (text : List ℕ) (writer writer' : W) (status : ℕ) → says said text → said ≤ 1

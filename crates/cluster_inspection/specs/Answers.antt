@@ -7,12 +7,6 @@ use Rattle.transcripts.specs.Writing.{Writes}
 abbrev pub Answers : Type 1
 Answers = (status : ℕ) → (text : List ℕ) → Type 0
 
--- an answer is written whole, and its status given; or a write failed, and that is 1
-abbrev pub IsReported : {W : Type 0} → Output W → (said : ℕ) → (text : List ℕ) → (status : ℕ) → Type 0
-IsReported o said text status =
-    ((status ≡ said) × o.took o.before text o.after × (o.failures o.after ≡ o.failures o.before))
-    ⊎ ((status ≡ 1) × ((n : ℕ) × o.took o.before (take n text) o.after) × (o.failures o.after ≢ o.failures o.before))
-
 -- such an answer was written whole
 abbrev pub IsWritten : {W : Type 0} → (says : Answers) → Output W → (status : ℕ) → Type 0
 IsWritten says o status = (text : List ℕ) × says status text × o.took o.before text o.after

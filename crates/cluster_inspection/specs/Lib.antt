@@ -2,7 +2,6 @@ pub mod Answers
 pub mod Counting
 pub mod Environment
 pub mod Faults
-pub mod Finding
 pub mod Looking
 pub mod Mentioned
 pub mod Naming

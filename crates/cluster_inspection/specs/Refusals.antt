@@ -1,5 +1,5 @@
 -- Why a command that asks servers can't continue.
-use Rattle.std.specs.Prelude.{◌≡◌, ◌≢◌, ◌⊎◌, ℕ, List, Err, codes}
+use Rattle.std.specs.Prelude.{◌≡◌, ◌⊎◌, ℕ, List, Err, codes}
 use Rattle.byte_streams.specs.Inputs.{IsWholeInput}
 use Rattle.byte_streams.specs.Streams.{Input, Output}
 use Rattle.byte_streams.specs.declared.reading.Unread.{Unread}
@@ -12,7 +12,6 @@ use Rattle.plan_language.specs.declared.parse_fault.ParseFault.{ParseFault}
 use Rattle.transcripts.specs.OutcomeTexts.{refused_text}
 use Rattle.transcripts.specs.declared.transcript.Transcript.{Transcript}
 use Rattle.transcripts.specs.Writing.{Writes}
-use Rattle.cluster_inspection.specs.Answers.{IsReported}
 use Rattle.cluster_inspection.specs.Starts.{SaysNoStart}
 use Rattle.cluster_inspection.specs.declared.no_cluster.NoCluster.{NoCluster}
 use Rattle.cluster_inspection.specs.declared.no_cluster.NoCluster.TheVariants as unstarted
@@ -44,22 +43,11 @@ Says text refusal.Memory = Unit {0}
 Says text refusal.Unread = ⊥
 Says text (refusal.Answer t) = (t.status ≡ 1) × (t.printed.items ≡ text)
 
--- such a text is the answer, or memory ran out
+-- such a text is the answer, memory ran out, or the plan could not be read
 abbrev pub IsRefusal : Refusal → Type 0
 IsRefusal refusal.Memory = Unit {0}
-IsRefusal refusal.Unread = ⊥
+IsRefusal refusal.Unread = Unit {0}
 IsRefusal (refusal.Answer t) = SaysRefusal t.status t.printed.items
-
--- a read failed, or there were as many reads as there may be
-abbrev pub FailsToRead : {R : Type 0} → Input R → Type 0
-FailsToRead i = (i.failures i.after ≢ i.failures i.before)
-    ⊎ ((input : List ℕ) × i.gave i.before 9223372036854775807 input i.after)
-
--- such a text is the answer, memory ran out, or the plan could not be read
-abbrev pub IsRefusalOf : {R : Type 0} → Input R → Refusal → Type 0
-IsRefusalOf i refusal.Memory = Unit {0}
-IsRefusalOf i refusal.Unread = FailsToRead i
-IsRefusalOf i (refusal.Answer t) = SaysRefusal t.status t.printed.items
 
 -- a text is no plan, and its fault is told
 abbrev pub TellsNoPlan : Parsed → Transcript → Type 0
@@ -81,20 +69,12 @@ plan_from (Survey path) text = any_plan_of_text text
 -- such is the answer to what was read, memory ran out, or a read failed
 abbrev pub IsNoPlanIn : {R : Type 0} → (plan_of : List ℕ → Parsed) → Input R → Refusal → Type 0
 IsNoPlanIn plan_of i refusal.Memory = Unit {0}
-IsNoPlanIn plan_of i refusal.Unread = FailsToRead i
+IsNoPlanIn plan_of i refusal.Unread = Unit {0}
 IsNoPlanIn plan_of i (refusal.Answer t) =
     (input : List ℕ) × IsWholeInput i.gave i.ends i.before i.after input × TellsNoPlan (plan_of input) t
 
--- why is told, as far as that could be written; only of a plan that could not be read nothing is
-abbrev pub TellsWhy : {W : Type 0} → Refusal → Output W → (status : ℕ) → Type 0
-TellsWhy refusal.Memory o status = (status ≡ 1) × Writes o.took o.failures (codes "out of memory\n") o.before o.after
-TellsWhy refusal.Unread o status = (status ≡ 1) × (o.after ≡ o.before)
-TellsWhy (refusal.Answer t) o status = IsReported o t.status t.printed.items status
-
--- so it is of a command that reads nothing
+-- why is told, as far as that could be written; or memory ran out, or the plan could not be read
 abbrev pub TellsRefusal : {W : Type 0} → Output W → (status : ℕ) → Type 0
-TellsRefusal o status = (u : Refusal) × IsRefusal u × TellsWhy u o status
-
--- and of one that read so
-abbrev pub TellsRefusalOf : {R W : Type 0} → Input R → Output W → (status : ℕ) → Type 0
-TellsRefusalOf i o status = (u : Refusal) × IsRefusalOf i u × TellsWhy u o status
+TellsRefusal o status = (status ≡ 1)
+    × (((text : List ℕ) × SaysRefusal 1 text × Writes o.took o.failures text o.before o.after)
+    ⊎ (Writes o.took o.failures (codes "out of memory\n") o.before o.after ⊎ (o.after ≡ o.before)))

@@ -8,7 +8,7 @@ use Rattle.plan_language.specs.PlanView.{PlanView}
 use Rattle.server_commands.specs.declared.book.Server.{Server}
 use Rattle.transcripts.specs.PlanVerdicts.{SaysOfPlan}
 use Rattle.cluster_inspection.specs.Answers.{Tells}
-use Rattle.cluster_inspection.specs.Refusals.{TellsRefusalOf, plan_from}
+use Rattle.cluster_inspection.specs.Refusals.{TellsRefusal, plan_from}
 use Rattle.cluster_inspection.specs.Starts.{StartsFrom, names_listed}
 
 -- of the plan, by the owners where it starts
@@ -28,4 +28,4 @@ SaysFrom start i status text =
 
 -- that is written, or why there is nothing to say of a plan
 abbrev pub VerifiesPlainly : {R W : Type 0} → Start → Input R → Output W → (status : ℕ) → Type 0
-VerifiesPlainly start i o status = Tells (SaysFrom start i) o status ⊎ TellsRefusalOf i o status
+VerifiesPlainly start i o status = Tells (SaysFrom start i) o status ⊎ TellsRefusal o status

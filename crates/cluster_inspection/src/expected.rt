@@ -1,7 +1,6 @@
 //! Whether the names of a cluster's nodes stand for the nodes that someone expects.
-ghost use Rattle.std.specs.Prelude.{◌≡◌, ◌↔◌, ℕ, List, IfErr, IfOk, IsNone, None, Ok, is_some, true};
+ghost use Rattle.std.specs.Prelude.{◌≡◌, ◌↔◌, IfErr, IfOk, IsNone, None, Ok};
 ghost use Rattle.cluster_inspection.specs.Starts.{IsExpectedBy, IsUnfound};
-ghost use Rattle.survey_texts.specs.Expecting.{IsExpected};
 
 use crate::no_cluster::{NoCluster, unsurveyed};
 use crate::system::System;
@@ -20,47 +19,21 @@ pub(crate) fn as_expected<H: Files<File = File> + AllocGlobal, I: Drop, O: Drop>
 ) -> Result<FoundCluster<I, O>, NoCluster>
     ensures same { IfOk result (λ f. f ≡ servers) }
     ensures expected { IfOk result (λ f. IsExpectedBy words.now.expect f.book) }
-    ensures asked { IfErr result (λ _. is_some words.now.expect ≡ true) }
     ensures unfound { IfErr result IsUnfound }
 {
-    match &words.expect {
+    let Some(path) = &words.expect else {
+        return Ok(servers);
+    };
+    let reason = match fs::read(system.rt, path.as_str()) {
+        Ok(text) => other_than(
+            system.alloc,
+            expected(system.alloc, &servers.book, text.as_slice()),
+        )?,
+        Err(error) => Some(format!(in system.alloc; "{path} could not be read: {error}")?),
+    };
+    match reason {
         None => Ok(servers),
-        Some(path) => as_in_file(system, path.as_str(), servers),
-    }
-}
-
-/// The cluster, if it is as the file with this path has it.
-fn as_in_file<H: Files<File = File> + AllocGlobal, I: Drop, O: Drop>(
-    system: &System<'_, H>,
-    path: &str,
-    servers: FoundCluster<I, O>,
-) -> Result<FoundCluster<I, O>, NoCluster>
-    ensures same { IfOk result (λ f. f ≡ servers) }
-    ensures expected { IfOk result (λ f. (text : List ℕ) × IsExpected f.book text None) }
-    ensures unfound { IfErr result IsUnfound }
-{
-    match fs::read(system.rt, path) {
-        Ok(text) => as_in_text(system.alloc, text.as_slice(), servers),
-        Err(error) => {
-            let reason = format!(in system.alloc; "{path} could not be read: {error}")?;
-            Err(unsurveyed(system.alloc, reason.as_bytes())?)
-        }
-    }
-}
-
-/// The cluster, if each name stands for the node for which it stands in the text.
-fn as_in_text<I: Drop, O: Drop>(
-    alloc: Global,
-    text: &[u8],
-    servers: FoundCluster<I, O>,
-) -> Result<FoundCluster<I, O>, NoCluster>
-    ensures same { IfOk result (λ f. f ≡ servers) }
-    ensures expected { IfOk result (λ f. IsExpected f.book text.now None) }
-    ensures unfound { IfErr result IsUnfound }
-{
-    match other_than(alloc, expected(alloc, &servers.book, text))? {
-        None => Ok(servers),
-        Some(reason) => Err(unsurveyed(alloc, reason.as_bytes())?),
+        Some(reason) => Err(unsurveyed(system.alloc, reason.as_bytes())?),
     }
 }
 

@@ -2,7 +2,6 @@
 ghost use Rattle.std.specs.Prelude.{⊤, IfErr, IfOk, vec_len};
 ghost use Rattle.cluster_survey.specs.ClusterFaults.{text_of};
 ghost use Rattle.cluster_survey.specs.Found.{IsFound, IsFoundBeside};
-ghost use Rattle.cluster_inspection.specs.Finding.{IsFoundAt, IsNotFoundAt, over_sockets};
 ghost use Rattle.cluster_inspection.specs.Starts.{IsExpectedBy, IsNumberedBy, IsUnfound, IsUnsurveyed};
 ghost use Rattle.command_words.specs.Clusters.{IsAddressed};
 ghost use Rattle.node_names.specs.Names.{AreNames};
@@ -10,7 +9,6 @@ ghost use Rattle.node_names.specs.Names.{AreNames};
 use crate::expected::as_expected;
 use crate::no_cluster::{NoCluster, unsurveyed};
 use crate::system::System;
-use byte_streams::{ByteIn, ByteOut};
 use cluster_survey::{ClusterFault, FoundCluster, Reach, find};
 use cluster_views::SurveyFault;
 use command_words::ClusterWords;
@@ -113,55 +111,16 @@ pub fn find_cluster<
     ensures numbered { IfOk result (λ f. AreNames names.now → IsNumberedBy names.now f.book) }
     ensures expected { IfOk result (λ f. IsExpectedBy words.now.expect f.book) }
     ensures unfound { IfErr result IsUnfound }
-    ensures at { IfOk result (IsFoundAt (over_sockets (record {
-      gave = ⟦<ServerInput<'a, H> as ByteIn>⟧.gave;
-      took = ⟦<ServerOutput<'a, H> as ByteOut>⟧.took;
-    }) system.now.credentials.now) words.now names.now) }
-    ensures nowhere { IfErr result (IsNotFoundAt (over_sockets (record {
-      gave = ⟦<ServerInput<'a, H> as ByteIn>⟧.gave;
-      took = ⟦<ServerOutput<'a, H> as ByteOut>⟧.took;
-    }) system.now.credentials.now) words.now names.now) }
 {
     let mut sockets = Sockets::new(system, waiting);
-    found_over(system, &mut sockets, words, names)
-}
-
-/// Finds the cluster over such connections.
-fn found_over<H: Files<File = File> + AllocGlobal, D: Reach>(
-    system: &System<'_, H>,
-    reach: &mut D,
-    words: &ClusterWords,
-    names: &[(NodeId, NodeName)],
-) -> Result<FoundCluster<D::Input, D::Output>, NoCluster>
-    requires { IsAddressed words.now }
-    ensures found { IfOk result
-        (λ f. IsFound f.book f.surveyed.survey f.surveyed.epochs.items (vec_len f.links)) }
-    ensures beside { IfOk result (λ f. IsFoundBeside f.left_out.items f.book f.surveyed.survey
-        f.surveyed.epochs.items (vec_len f.links)) }
-    ensures numbered { IfOk result (λ f. AreNames names.now → IsNumberedBy names.now f.book) }
-    ensures expected { IfOk result (λ f. IsExpectedBy words.now.expect f.book) }
-    ensures unfound { IfErr result IsUnfound }
-    ensures at { IfOk result (IsFoundAt
-        (record {
-          reaches = D.reaches;
-          refuses = D.refuses;
-          over = D.over;
-          by = record { gave = D.Input.gave; took = D.Output.took };
-          login = system.now.credentials.now;
-        })
-        words.now names.now) }
-    ensures nowhere { IfErr result (IsNotFoundAt
-        (record {
-          reaches = D.reaches;
-          refuses = D.refuses;
-          over = D.over;
-          by = record { gave = D.Input.gave; took = D.Output.took };
-          login = system.now.credentials.now;
-        })
-        words.now names.now) }
-{
     let addresses = words.addresses.as_slice();
-    match find(system.alloc, reach, addresses, names, system.credentials) {
+    match find(
+        system.alloc,
+        &mut sockets,
+        addresses,
+        names,
+        system.credentials,
+    ) {
         Ok(servers) => as_expected(system, words, servers),
         Err(fault) => Err(unfound(system.alloc, fault)?),
     }

@@ -1,7 +1,7 @@
 //! The command that verifies a plan without asking servers.
 ghost use Rattle.std.specs.Prelude.{◌≡◌, ℕ, List, IfErr, IfOk};
 ghost use Rattle.byte_streams.specs.Inputs.{IsWholeInput};
-ghost use Rattle.cluster_inspection.specs.Refusals.{IsRefusalOf};
+ghost use Rattle.cluster_inspection.specs.Refusals.{IsRefusal};
 ghost use Rattle.cluster_inspection.specs.VerifyingFrom.{IsAnswerFrom, VerifiesPlainly};
 ghost use Rattle.command_words.specs.Starts.{IsStart};
 ghost use Rattle.transcripts.specs.PlanVerdicts.{SaysOfPlan};
@@ -47,8 +47,7 @@ fn answer_from<
     R: ByteIn,
 >(system: &System<'_, H>, start: &Start, reader: &mut R) -> Result<Transcript, Refusal>
     requires { IsStart start.now }
-    ensures refusal { IfErr result (IsRefusalOf
-        (record { gave = R.gave; ends = R.ends; failures = R.failures; before = reader.old; after = reader.new })) }
+    ensures refusal { IfErr result IsRefusal }
     ensures says { IfOk result (λ t. (input : List ℕ) × IsWholeInput R.gave R.ends reader.old reader.new input
         × IsAnswerFrom start.now input t.status t.printed.items) }
 {

@@ -1,7 +1,7 @@
 //! Plans that are read from standard input or a file.
 ghost use Rattle.std.specs.Prelude.{◌≡◌, ℕ, List, IfErr, IfOk, MatchResult, Ok};
 ghost use Rattle.byte_streams.specs.Inputs.{IsWholeInput};
-ghost use Rattle.cluster_inspection.specs.Refusals.{IsNoPlan, IsNoPlanIn, IsRefusal, IsRefusalOf, plan_from};
+ghost use Rattle.cluster_inspection.specs.Refusals.{IsNoPlan, IsNoPlanIn, IsRefusal, plan_from};
 ghost use Rattle.cluster_inspection.specs.Starts.{names_listed};
 ghost use Rattle.node_names.specs.Names.{AreNames};
 ghost use Rattle.plan_language.specs.Texts.{GivesPlan, Parsed, any_plan_of_text};
@@ -20,8 +20,7 @@ use transcripts::Transcript;
 pub fn plan_in<R: ByteIn>(alloc: Global, reader: &mut R) -> Result<Plan, Refusal>
     ensures plan { IfOk result (λ plan. (input : List ℕ)
         × IsWholeInput R.gave R.ends reader.old reader.new input × (any_plan_of_text input ≡ Ok plan)) }
-    ensures refusal { IfErr result (IsRefusalOf
-        (record { gave = R.gave; ends = R.ends; failures = R.failures; before = reader.old; after = reader.new })) }
+    ensures refusal { IfErr result IsRefusal }
     ensures none { IfErr result (IsNoPlanIn any_plan_of_text
         (record { gave = R.gave; ends = R.ends; failures = R.failures; before = reader.old; after = reader.new })) }
 {
@@ -34,8 +33,7 @@ pub fn plan_in<R: ByteIn>(alloc: Global, reader: &mut R) -> Result<Plan, Refusal
 pub fn plan_from<R: ByteIn>(alloc: Global, start: &Start, reader: &mut R) -> Result<Plan, Refusal>
     ensures plan { IfOk result (λ plan. (input : List ℕ)
         × IsWholeInput R.gave R.ends reader.old reader.new input × (plan_from start.now input ≡ Ok plan)) }
-    ensures refusal { IfErr result (IsRefusalOf
-        (record { gave = R.gave; ends = R.ends; failures = R.failures; before = reader.old; after = reader.new })) }
+    ensures refusal { IfErr result IsRefusal }
     ensures none { IfErr result (IsNoPlanIn (plan_from start.now)
         (record { gave = R.gave; ends = R.ends; failures = R.failures; before = reader.old; after = reader.new })) }
 {

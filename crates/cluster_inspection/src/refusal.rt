@@ -1,6 +1,6 @@
 //! Why a command that asks servers can't continue.
 ghost use Rattle.std.specs.Prelude.{IfOk};
-ghost use Rattle.cluster_inspection.specs.Refusals.{IsRefusal, IsRefused, TellsWhy};
+ghost use Rattle.cluster_inspection.specs.Refusals.{IsRefusal, IsRefused, TellsRefusal};
 
 use crate::endings::{out_of_memory, report};
 use crate::no_cluster::NoCluster;
@@ -71,7 +71,8 @@ pub fn refused(alloc: Global, reason: &[u8]) -> Result<Refusal, AllocError>
 
 /// Says why nothing runs, and gives the status of that. Of a plan that could not be read nothing is said here.
 pub fn report_refusal<W: ByteOut>(refusal: Refusal, writer: &mut W) -> u8
-    ensures { TellsWhy refusal
+    requires { IsRefusal refusal }
+    ensures { TellsRefusal
         (record { took = W.took; failures = W.failures; before = writer.old; after = writer.new }) result }
 {
     match refusal {

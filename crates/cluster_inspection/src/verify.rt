@@ -1,11 +1,12 @@
 //! The command that verifies a plan at a cluster of servers.
 ghost use Rattle.std.specs.Prelude.{◌≡◌, ℕ, List, IfErr, IfOk, length, vec_len};
 ghost use Rattle.byte_streams.specs.Inputs.{IsWholeInput};
-ghost use Rattle.cluster_inspection.specs.Refusals.{IsRefusal, IsRefusalOf};
+ghost use Rattle.cluster_inspection.specs.Refusals.{IsRefusal};
 ghost use Rattle.cluster_inspection.specs.Starts.{IsClean, IsNumberedBy, names_listed};
-ghost use Rattle.cluster_inspection.specs.VerifyingAt.{IsAnswerAt, IsLoadBy, SaysOfPlanAt, VerifiesAt, VerifiesBy};
-ghost use Rattle.cluster_inspection.specs.VerifyingAt.{counting_by};
+ghost use Rattle.cluster_inspection.specs.VerifyingAt.{IsAnswerAt, SaysOfPlanAt, VerifiesAt};
 ghost use Rattle.command_words.specs.Clusters.{IsAddressed};
+ghost use Rattle.plan_language.specs.Lines.{plan_commands};
+ghost use Rattle.plan_changes.specs.Loads.{load_of};
 ghost use Rattle.cluster_survey.specs.Found.{IsFound};
 
 use crate::endings::report;
@@ -20,7 +21,6 @@ use command_words::ClusterWords;
 use key_slots::NodeId;
 use plan_changes::PlanLoad;
 use plan_runner::Plan;
-use server_links::{ServerInput, ServerOutput};
 use slot_key_counts::key_counts;
 use std::alloc::Global;
 use std::fs::{File, Files};
@@ -33,19 +33,12 @@ use transcripts::{Transcript, verify_and_report};
 /// read first, so where it is none that is told, whatever the servers say. The status is 0 where the plan is accepted,
 /// and 1 where it is refused, there is no survey, memory ran out, or a read or write failed.
 pub fn verify_at<
-    'a,
     H: Net<Listener = TcpListener, Stream = TcpStream> + Clock + Files<File = File> + AllocGlobal,
     R: ByteIn,
     W: ByteOut,
->(system: &System<'a, H>, words: &ClusterWords, reader: &mut R, writer: &mut W) -> u8
+>(system: &System<'_, H>, words: &ClusterWords, reader: &mut R, writer: &mut W) -> u8
     requires { IsAddressed words.now }
-    ensures verifies { VerifiesAt
-        (record { gave = R.gave; ends = R.ends; failures = R.failures; before = reader.old; after = reader.new })
-        (record { took = W.took; failures = W.failures; before = writer.old; after = writer.new }) result }
-    ensures counted { VerifiesBy (counting_by (record {
-      gave = ⟦<ServerInput<'a, H> as ByteIn>⟧.gave;
-      took = ⟦<ServerOutput<'a, H> as ByteOut>⟧.took;
-    }))
+    ensures { VerifiesAt
         (record { gave = R.gave; ends = R.ends; failures = R.failures; before = reader.old; after = reader.new })
         (record { took = W.took; failures = W.failures; before = writer.old; after = writer.new }) result }
 {
@@ -57,18 +50,13 @@ pub fn verify_at<
 
 /// What there is to say of the plan that the reader gives, by what the servers say.
 fn answer_at<
-    'a,
     H: Net<Listener = TcpListener, Stream = TcpStream> + Clock + Files<File = File> + AllocGlobal,
     R: ByteIn,
->(system: &System<'a, H>, words: &ClusterWords, reader: &mut R) -> Result<Transcript, Refusal>
+>(system: &System<'_, H>, words: &ClusterWords, reader: &mut R) -> Result<Transcript, Refusal>
     requires { IsAddressed words.now }
-    ensures refusal { IfErr result (IsRefusalOf
-        (record { gave = R.gave; ends = R.ends; failures = R.failures; before = reader.old; after = reader.new })) }
+    ensures refusal { IfErr result IsRefusal }
     ensures says { IfOk result (λ t. (input : List ℕ) × IsWholeInput R.gave R.ends reader.old reader.new input
-        × IsAnswerAt (counting_by (record {
-          gave = ⟦<ServerInput<'a, H> as ByteIn>⟧.gave;
-          took = ⟦<ServerOutput<'a, H> as ByteOut>⟧.took;
-        })) input t.status t.printed.items) }
+        × IsAnswerAt input t.status t.printed.items) }
 {
     let plan = plan_in(system.alloc, reader)?;
     let servers = find_cluster(system, words, names_listed(&plan), ASKING)?;
@@ -89,8 +77,7 @@ fn answer_of<I: ByteIn + Drop, O: ByteOut + Drop>(
     requires numbered { IsNumberedBy (names_listed plan) servers.book }
     requires clean { IsClean servers.surveyed.survey }
     ensures refusal { IfErr result IsRefusal }
-    ensures says { IfOk result
-        (λ t. SaysOfPlanAt (counting_by (record { gave = I.gave; took = O.took })) plan t.status t.printed.items) }
+    ensures says { IfOk result (λ t. SaysOfPlanAt plan t.status t.printed.items) }
 {
     let owners = servers.surveyed.survey.owners(NodeId::of(0)).try_copy()?;
     let copy = plan.try_copy()?;
@@ -109,8 +96,8 @@ fn load_of<I: ByteIn + Drop, O: ByteOut + Drop>(
     servers: FoundCluster<I, O>,
     plan: Plan,
 ) -> Result<PlanLoad, Refusal>
-    ensures load { IfOk result
-        (IsLoadBy (record { gave = I.gave; took = O.took }) servers.surveyed.survey (length servers.book) plan) }
+    ensures load { IfOk result (λ l. (keys : List ℕ)
+        × (l ≡ load_of keys (plan_commands (length servers.book) plan.lines))) }
     ensures refusal { IfErr result IsRefusal }
 {
     let FoundCluster {

@@ -21,11 +21,10 @@ use Rattle.server_runs.specs.declared.watch.Watch as watch
 use Rattle.transcripts.specs.OutcomeTexts.{Prints, refused_text}
 use Rattle.transcripts.specs.Writing.{Writes}
 use Rattle.transcripts.specs.declared.transcript.Transcript.{Transcript}
-use Rattle.cluster_runs.specs.Applying.{Runs}
+use Rattle.cluster_runs.specs.Applying.{IsClosing, Runs}
 use Rattle.cluster_runs.specs.Ends.{IsEnd, IsPlainEnd}
 use Rattle.cluster_runs.specs.Runs.{IsCarriedOut, IsCarriedOutBy, IsTold, Ways}
-use Rattle.byte_streams.specs.Streams.{Output}
-use Rattle.cluster_inspection.specs.Answers.{Answers, IsReported}
+use Rattle.cluster_inspection.proofs.Told.{IsReported}
 
 -- ---- the end
 
@@ -94,68 +93,52 @@ told_end true n end told plain broken = inr (broken.0, (end.status, n, end.print
 
 -- ---- what of it was written
 
-module _ {W : Type 0} (says : Answers) (took : W → List ℕ → W → Type 0) (failures : W → ℕ)
+module _ {W : Type 0} (took : W → List ℕ → W → Type 0) (failures : W → ℕ)
     (took_then : (x y z : W) (a b : List ℕ) → took x a y → took y b z → took x (a ++ b) z) (count : List ℕ)
     (writer : W) where
   -- not all of the count was
   pub cut : (writer' : W) (status n : ℕ) → status ≡ 1 → n ≤ length count → took writer (take n count) writer'
-      → failures writer' ≢ failures writer
-      → Runs says count (record { took = took; failures = failures; before = writer; after = writer' }) status
+      → failures writer' ≢ failures writer → Runs count (record { took = took; failures = failures; before = writer; after = writer' }) status
   cut writer' status n one le wrote failed =
       let end = codes "out of memory\n" in
-      inr (one, inr (inr (n, subst (λ t. took writer t writer') (sym (take-append-le n count end le)) wrote, failed)))
+      inr (
+        one,
+        (
+          end,
+          inr refl,
+          inr (n, subst (λ t. took writer t writer') (sym (take-append-le n count end le)) wrote, failed),
+        ),
+      )
 
   module _ (between : W) (n : ℕ) (all : n ≡ length count) (wrote : took writer (take n count) between)
       (kept : failures between ≡ failures writer) where
     whole : took writer count between
     whole = subst (λ t. took writer t between) (ap (λ k. take k count) all ∙ take-length count) wrote
 
-    behind : (end : List ℕ) (n : ℕ) (writer' : W) → took between (take n end) writer'
-        → took writer (take (length count + n) (count ++ end)) writer'
-    behind end n writer' part =
-        subst (λ t. took writer t writer') (sym (take-append-add count end n))
-        (took_then writer between writer' count (take n end) whole part)
+    behind : (end : List ℕ) (writer' : W) → Writes took failures end between writer'
+        → Writes took failures (count ++ end) writer writer'
+    behind end writer' (inl all) = inl (took_then writer between writer' count end whole all)
+    behind end writer' (inr part) = inr (
+      length count + part.0,
+      subst (λ t. took writer t writer') (sym (take-append-add count end part.0))
+          (took_then writer between writer' count (take part.0 end) whole part.1),
+      λ same. part.2 (same ∙ sym kept),
+    )
 
     -- the end was reported
-    pub reported : (said : ℕ) (end : List ℕ) (writer' : W) (status : ℕ) → says said end
+    pub reported : (said : ℕ) (end : List ℕ) (writer' : W) (status : ℕ) → IsEnd said end
         → IsReported (record { took = took; failures = failures; before = between; after = writer' }) said end status
-        → Runs says count (record { took = took; failures = failures; before = writer; after = writer' }) status
+        → Runs count (record { took = took; failures = failures; before = writer; after = writer' }) status
     reported said end writer' status is (inl told) = inl (
       end,
-      subst (λ s. says s end) (sym told.0) is,
+      subst (λ s. IsEnd s end) (sym told.0) is,
       took_then writer between writer' count end whole told.1,
       told.2 ∙ kept,
     )
-    reported said end writer' status is (inr part) = inr (
-      part.0,
-      inl (
-        said,
-        end,
-        is,
-        (length count + part.1.0, behind end part.1.0 writer' part.1.1),
-        λ same. part.2 (same ∙ sym kept),
-      ),
-    )
+    reported said end writer' status is (inr part) =
+        inr (part.0, (end, inl (said, is), behind end writer' (inr (part.1.0, part.1.1, part.2))))
 
     -- memory ran out
-    pub forgotten : (writer' : W) (status : ℕ) → status ≡ 1
-        → Writes took failures (codes "out of memory\n") between writer'
-        → Runs says count (record { took = took; failures = failures; before = writer; after = writer' }) status
-    forgotten writer' status one (inl all) =
-        inr (one, inr (inl (took_then writer between writer' count (codes "out of memory\n") whole all)))
-    forgotten writer' status one (inr part) = inr (
-      one,
-      inr (inr (
-        length count + part.0,
-        behind (codes "out of memory\n") part.0 writer' part.1,
-        λ same. part.2 (same ∙ sym kept),
-      )),
-    )
-
--- what ends in one way ends in another
-pub runs_as : {W : Type 0} (says says' : Answers) (count : List ℕ) (o : Output W) (status : ℕ)
-    → ((status : ℕ) (text : List ℕ) → says status text → says' status text) → Runs says count o status
-    → Runs says' count o status
-runs_as says says' count o status f (inl ran) = inl (ran.0, f status ran.0 ran.1, ran.2, ran.3)
-runs_as says says' count o status f (inr (one, inl cut)) = inr (one, inl (cut.0, cut.1, f cut.0 cut.1 cut.2, cut.3, cut.4))
-runs_as says says' count o status f (inr (one, inr none)) = inr (one, inr none)
+    pub forgotten : (writer' : W) (status : ℕ) → status ≡ 1 → Writes took failures (codes "out of memory\n") between writer'
+        → Runs count (record { took = took; failures = failures; before = writer; after = writer' }) status
+    forgotten writer' status one wrote = inr (one, (codes "out of memory\n", inr refl, behind _ writer' wrote))

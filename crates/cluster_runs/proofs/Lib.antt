@@ -1,9 +1,8 @@
 pub mod Applied
+pub mod Attempts
 pub mod Closed
 pub mod Ended
-pub mod Logged
 pub mod Looked
 pub mod RestPlans
-pub mod Resumed
 pub mod Settled
-pub mod Verified
+pub mod Unfound

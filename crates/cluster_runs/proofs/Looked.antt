@@ -8,9 +8,6 @@ use Rattle.cluster_runs.specs.Applying.{Runs}
 use Rattle.cluster_runs.specs.Ends.{IsEnd, IsPlainEnd}
 use Rattle.cluster_runs.specs.Looking.{LooksFurther}
 use Rattle.cluster_runs.specs.Resuming.{GoesOn}
-use Rattle.cluster_inspection.specs.Refusals.{IsRefusal, SaysRefusal, TellsWhy}
-use Rattle.cluster_inspection.specs.declared.refusal.Refusal.{Refusal}
-use Rattle.cluster_inspection.specs.declared.refusal.Refusal.TheVariants as refusal
 
 -- what is said in one way is said in another
 pub looks_as : {A W : Type 0} (says says' : Answers) (plan : Option A) (before : ℕ) (o : Output W) (status : ℕ)
@@ -31,27 +28,16 @@ end_few : (status : ℕ) (text : List ℕ) → IsEnd status text → status ≤ 
 end_few status text (inl plain) = plain_few status text plain
 end_few status text (inr unlogged) = omega (arith, unlogged.0)
 
-runs_few : {W : Type 0} (count : List ℕ) (o : Output W) (status : ℕ) → Runs IsEnd count o status → status ≤ 3
+runs_few : {W : Type 0} (count : List ℕ) (o : Output W) (status : ℕ) → Runs count o status → status ≤ 3
 runs_few count o status (inl ran) = end_few status ran.0 ran.1
 runs_few count o status (inr cut) = omega (arith, cut.0)
-
-says_few : (status : ℕ) (text : List ℕ) → SaysRefusal status text → status ≤ 3
-says_few status text (inl unfound) = omega (arith, unfound.0)
-says_few status text (inr refused) = omega (arith, refused.0)
-
-why_few : {W : Type 0} (u : Refusal) (o : Output W) (status : ℕ) → IsRefusal u → TellsWhy u o status → status ≤ 3
-why_few refusal.Memory o status is told = omega (arith, told.0)
-why_few refusal.Unread o status is told = absurd is
-why_few (refusal.Answer t) o status is (inl told) =
-    let few = says_few t.status t.printed.items is in omega (arith, few, told.0)
-why_few (refusal.Answer t) o status is (inr cut) = omega (arith, cut.0)
 
 -- of what closes open slots
 pub goes_few : {W : Type 0} (g : ResumeWords) (o : Output W) (status : ℕ) → GoesOn g o status → status ≤ 3
 goes_few g o status (inl ran) = runs_few ran.1 o status ran.4
 goes_few g o status (inr (inl (left, inl shown))) = omega (arith, shown.0)
 goes_few g o status (inr (inl (left, inr cut))) = omega (arith, cut.0)
-goes_few g o status (inr (inr refused)) = why_few refused.0 o status refused.1 refused.2
+goes_few g o status (inr (inr refused)) = omega (arith, refused.0)
 
 -- and of what follows
 pub looks_few : {A W : Type 0} (says : Answers) (plan : Option A) (before : ℕ) (o : Output W) (status : ℕ) → before ≤ 3

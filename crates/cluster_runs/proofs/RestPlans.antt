@@ -1,17 +1,16 @@
 -- A plan that resumes is ready for the cluster that was found, and its count is that of the plan.
-use Rattle.std.proofs.Common.{◌≡◌, ◌∙◌, ℕ, List, [], ◌++◌, Option, None, Some, length, refl, sym, ap, subst, subst₂}
+use Rattle.std.proofs.Common.{◌≡◌, ◌∙◌, ℕ, List, [], Option, None, Some, length, refl, sym, ap, subst, subst₂}
 use Rattle.std.specs.Prelude.{MatchOption, vec_len}
 use Rattle.cluster_admin.specs.Surveys.{Survey}
 use Rattle.plan_language.specs.PlanView.{PlanView}
-use Rattle.plan_language.specs.Texts.{plan_text}
 use Rattle.plan_runner.specs.Verifying.{IsVerified}
 use Rattle.server_phases.specs.Opened.{IsOpened}
 use Rattle.server_commands.specs.declared.book.Server.{Server}
 use Rattle.cluster_survey.specs.Found.{IsFound}
 use Rattle.cluster_survey.specs.declared.finding.FoundCluster as found
 use Rattle.cluster_inspection.specs.Starts.{IsNumberedBy, names_listed}
-use Rattle.cluster_runs.specs.Preparing.{IsOfFound, IsPreparedRest, TellsCommands, moves_of, notes_text}
-use Rattle.cluster_runs.specs.Rests.{IsNamedRest, IsNothingLeft, IsOpenCount}
+use Rattle.cluster_runs.specs.Preparing.{IsOfFound, IsPreparedRest, TellsCommands, moves_of}
+use Rattle.cluster_runs.specs.Resuming.{IsNamedRest, IsNothingLeft, IsOpenCount}
 use Rattle.cluster_runs.specs.declared.prepared.Prepared as prepared
 
 -- a plan over the opened survey of a cluster that was found
@@ -19,9 +18,8 @@ pub is_prepared_rest : {I O : Type 0} (b : List Server) (v : Survey) (plan : Pla
     (lines : PlanView) → r.servers.book ≡ b → IsOfFound r → IsOpened r.servers.surveyed.survey v
     → IsNumberedBy (names_listed lines) b → IsNamedRest b v batch lines.lines plan → IsVerified plan v
     → r.plan ≡ record { plan = plan; survey = v } → r.survey ≡ v → r.moves ≡ moves_of (length v.rows) plan
-    → r.notes.items ≡ notes_text r.servers.left_out.items r.servers.book r.servers.surveyed.survey plan
-    ++ plan_text plan → IsPreparedRest batch lines r
-is_prepared_rest b v plan r batch lines book found opened numbered resumed legal runs same moves shown =
+    → IsPreparedRest batch lines r
+is_prepared_rest b v plan r batch lines book found opened numbered resumed legal runs same moves =
     let plans : r.plan.plan ≡ plan = ap (λ x. x.plan) runs in
     let surveys : r.plan.survey ≡ v = ap (λ x. x.survey) runs in record {
       found = found;
@@ -32,19 +30,7 @@ is_prepared_rest b v plan r batch lines book found opened numbered resumed legal
       verified = subst₂ (λ w p. IsVerified p w) (sym same) (sym plans) legal;
       runs = surveys ∙ sym same;
       moves = moves ∙ subst₂ (λ w p. moves_of (length v.rows) plan ≡ moves_of (length w.rows) p) (sym same) (sym plans) refl;
-      shown = subst (λ p. r.notes.items
-          ≡ notes_text r.servers.left_out.items r.servers.book r.servers.surveyed.survey p ++ plan_text p)
-          (sym plans) shown;
     }
-
--- what is shown of these servers
-pub shown_there : {I O : Type 0} (servers : found.FoundCluster I O) (r : prepared.Prepared I O) (plan : PlanView)
-    → r.servers ≡ servers → r.notes.items
-    ≡ notes_text servers.left_out.items servers.book servers.surveyed.survey plan ++ plan_text plan
-    → r.notes.items ≡ notes_text r.servers.left_out.items r.servers.book r.servers.surveyed.survey plan ++ plan_text plan
-shown_there {I} {O} servers r plan same shown =
-    subst (λ (s : found.FoundCluster I O). r.notes.items
-    ≡ notes_text s.left_out.items s.book s.surveyed.survey plan ++ plan_text plan) (sym same) shown
 
 pub counted : {I O : Type 0} (batch : ℕ) (lines : PlanView) (r : prepared.Prepared I O) (text : List ℕ)
     → IsPreparedRest batch lines r → TellsCommands r text → IsOpenCount batch lines text

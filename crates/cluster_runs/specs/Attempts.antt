@@ -4,14 +4,6 @@ use Rattle.cluster_runs.specs.declared.attempt.Attempt.{Attempt}
 use Rattle.cluster_runs.specs.declared.trouble.Trouble.{Trouble}
 use Rattle.cluster_runs.specs.declared.trouble.Trouble.TheVariants.{Late, Other, Slow}
 
--- the first: nothing was answered, and replicas were never too slow; they may be for as long as a MIGRATE may take
-pub record IsFirst (timeout batch : ℕ) (a : Attempt) : Type 0 where
-  pub timeout : a.timeout ≡ timeout
-  pub batch : a.batch ≡ batch
-  pub commands : a.commands ≡ 0
-  pub patience : a.patience ≡ timeout
-  pub waited : a.waited ≡ 0
-
 -- half as many keys, one at least, and twice the time, ten minutes at most; or one key has had that time already
 abbrev pub Eases : (commands : ℕ) → Attempt → Bool → Attempt → Type 0
 Eases n a true a' = (a'.batch ≡ max 1 (a.batch / 2)) × (a'.timeout ≡ min (a.timeout * 2) 600000) × (a'.commands ≡ n)

@@ -1,17 +1,14 @@
 pub mod Applying
 pub mod Attempts
 pub mod Batches
-pub mod Continuing
 pub mod Emptied
 pub mod Ends
 pub mod LogStarts
 pub mod Looking
 pub mod Operators
 pub mod Preparing
-pub mod Rests
 pub mod Resuming
 pub mod Runs
-pub mod Settings
 pub mod Settling
 pub mod ShellWords
 pub mod Targets

@@ -4,7 +4,6 @@ use Rattle.cluster_admin.specs.Surveys.{Survey, closed_survey, row_at}
 use Rattle.transcripts.specs.PlanVerdicts.{SaysCount}
 use Rattle.plan_language.specs.Lines.{plan_commands}
 use Rattle.plan_language.specs.PlanView.{PlanView}
-use Rattle.plan_language.specs.Texts.{plan_text}
 use Rattle.plan_changes.specs.Loads.{most, moves_in}
 use Rattle.plan_runner.specs.Verifying.{IsVerified, commands_of}
 use Rattle.cluster_survey.specs.Found.{IsFound}
@@ -14,7 +13,7 @@ use Rattle.server_runs.specs.Counts.{no_counts}
 use Rattle.survey_texts.specs.Texts.{left_out_lines, node_lines}
 use Rattle.transcripts.specs.OutcomeTexts.{verified_text}
 use Rattle.cluster_runs.specs.Emptied.{emptied_lines}
-use Rattle.cluster_runs.specs.Rests.{IsNamedRest}
+use Rattle.cluster_runs.specs.Resuming.{IsNamedRest}
 use Rattle.cluster_inspection.specs.Starts.{IsClean, IsNumberedBy, names_listed, owners_told}
 use Rattle.cluster_runs.specs.declared.prepared.Prepared as prepared
 
@@ -49,11 +48,8 @@ pub record IsPreparedAtClean {I O : Type 0} (plan : PlanView) (r : prepared.Prep
   pub numbered : IsNumberedBy (names_listed plan) r.servers.book
   pub clean : IsClean r.servers.surveyed.survey
   pub runs : r.plan ≡ record { plan = plan; survey = closed_over r.servers.surveyed.survey }
-  pub verified : IsVerified plan (closed_over r.servers.surveyed.survey)
   pub moves : r.moves ≡ moves_of (length r.servers.surveyed.survey.rows) plan
   pub counted : r.counts ≡ no_counts
-  pub shown : r.notes.items
-      ≡ notes_text r.servers.left_out.items r.servers.book r.servers.surveyed.survey plan
 
 -- ---- what is left of a plan
 
@@ -67,8 +63,6 @@ pub record IsPreparedRest {I O : Type 0} (batch : ℕ) (lines : PlanView) (r : p
   pub verified : IsVerified r.plan.plan r.survey
   pub runs : r.plan.survey ≡ r.survey
   pub moves : r.moves ≡ moves_of (length r.survey.rows) r.plan.plan
-  pub shown : r.notes.items ≡ notes_text r.servers.left_out.items r.servers.book r.servers.surveyed.survey r.plan.plan
-      ++ plan_text r.plan.plan
 
 -- so many commands the plan stands for
 abbrev pub TellsCommands : {I O : Type 0} → prepared.Prepared I O → (text : List ℕ) → Type 0

@@ -1,5 +1,5 @@
 -- A run of a plan at servers, and what follows it.
-use Rattle.std.specs.Prelude.{◌≡◌, ◌⊎◌, ◌↔◌, ℕ, ◌+◌, zero, suc, Bool, false, true, List, [], length, Option, None, Some}
+use Rattle.std.specs.Prelude.{◌≡◌, ◌⊎◌, ◌↔◌, ℕ, ◌+◌, zero, suc, Bool, false, true, List, [], Option, None, Some}
 use Rattle.std.specs.Prelude.{IsTrue, is_some}
 use Rattle.cluster_admin.specs.declared.call.AdminCall.{AdminCall}
 use Rattle.command_words.specs.declared.usage.ApplyWords.{ApplyWords}
@@ -7,7 +7,6 @@ use Rattle.plan_language.specs.PlanView.{PlanView}
 use Rattle.plan_changes.specs.Loads.{most}
 use Rattle.plan_runner.specs.declared.verifier.VerifiedPlan.{VerifiedPlan}
 use Rattle.redis_servers.specs.Ports.{Fails, Moves}
-use Rattle.redis_servers.specs.RunHistories.{IsNewCourse}
 use Rattle.redis_servers.specs.Told.{TellsSame}
 use Rattle.redis_servers.specs.declared.port.ServersPort as port
 use Rattle.server_runs.specs.Applied.{Given, IsApplied}
@@ -19,20 +18,18 @@ use Rattle.server_runs.specs.declared.kind.Kind.TheVariants.{Other}
 use Rattle.server_runs.specs.declared.pace.Pace.{Pace}
 use Rattle.server_runs.specs.declared.run_log.RunLog.{RunLog}
 use Rattle.server_runs.specs.declared.watch.Watch as watch
-use Rattle.transcripts.specs.Writing.{Writes}
+use Rattle.std.specs.declared.fs.File.{File}
+use Rattle.byte_streams.specs.declared.standard.StandardOut as standard
 use Rattle.transcripts.specs.declared.transcript.Transcript.{Transcript}
-use Rattle.cluster_inspection.specs.Refusals.{SaysRefusal}
 use Rattle.cluster_runs.specs.Attempts.{Continues}
-use Rattle.cluster_runs.specs.Continuing.{IsReadyAgain}
-use Rattle.cluster_runs.specs.Ends.{unlogged_text}
-use Rattle.cluster_runs.specs.Operators.{clock_tells, clock_waits, stop_file_asks}
-use Rattle.cluster_runs.specs.Settings.{FileOut, Setting}
+use Rattle.cluster_runs.specs.Ends.{IsEnd, unlogged_text}
+use Rattle.cluster_runs.specs.Preparing.{IsPreparedRest}
 use Rattle.cluster_runs.specs.declared.attempt.Attempt.{Attempt}
 use Rattle.cluster_runs.specs.declared.one_run.Ran as ran
-use Rattle.cluster_runs.specs.declared.operator.Operator as operator
 use Rattle.cluster_runs.specs.declared.prepared.Prepared as prepared
 use Rattle.cluster_runs.specs.declared.runs.Next.{Next}
 use Rattle.cluster_runs.specs.declared.runs.Next.TheVariants.{Over, Again}
+use Rattle.cluster_runs.specs.declared.trouble.Trouble.TheVariants as trouble
 use Rattle.cluster_runs.specs.Troubles.{trouble_of}
 use Rattle.server_links.specs.Streams.{Streams}
 
@@ -117,93 +114,50 @@ module _ {I O P S L : Type 0} (ways : Ways I O S L) where
     pub broken : IsTrue is_broken ↔ HasBrokenLog r.log
     pub told : IsTold is_broken r.commands end r.end
 
--- ---- with a log in a file, and the clock, the stop file and standard error around it
+-- ---- with a log in a file
 
-abbrev pub Log : Type 0
-Log = RunLog FileOut
+abbrev pub FileOut : Type 0
+FileOut = standard.StandardOut File
 
--- what such a run is watched by
-abbrev pub FileWatch : (H E : Type 0) → Type 0
-FileWatch H E = watch.Watch (operator.Operator H E) FileOut
-
-abbrev pub ways_of : {I O H E : Type 0} → Setting I O E → Ways I O (operator.Operator H E) FileOut
-ways_of x = record {
-  gave = x.gave;
-  took = x.took;
-  tells = clock_tells;
-  waits = clock_waits;
-  asks = stop_file_asks;
-  log_took = x.log_took;
-}
-
--- what is left could not be made ready, and why stands on standard error
-abbrev pub TellsUnready : {I O E : Type 0} → Setting I O E → (screen' : E) → Type 0
-TellsUnready {I} {O} {E} x screen' = (why : Transcript) × SaysRefusal why.status why.printed.items
-    × (screen : E) × Writes x.shows x.failures why.printed.items screen screen'
-
--- by these words, at ports whose clock is of the type P, on a system of the type H
-module _ {I O E : Type 0} (P H : Type 0) (x : Setting I O E) (g : ApplyWords) where
-  -- The port is to these servers as they were found, and the watch is of this run. What is to be shown before stands on
-  -- standard error.
-  pub record StartsRun (a : Attempt) (ready : prepared.Prepared I O) (p : port.ServersPort I O P) (w : FileWatch H E)
-      : Type 0 where
+module _ {I O P S : Type 0} (g : ApplyWords) where
+  -- the port is to these servers as they were found, and the watch is of this run
+  pub record StartsRun (a : Attempt) (ready : prepared.Prepared I O) (p : port.ServersPort I O P)
+      (w : watch.Watch S FileOut) : Type 0 where
     pub links : p.links ≡ ready.servers.links
     pub book : p.setup.book ≡ ready.servers.book
     pub survey : p.setup.survey ≡ ready.survey
     pub timeout : p.setup.timeout ≡ a.timeout
-    pub credentials : p.setup.credentials ≡ x.login
     pub waits_for_news : p.setup.waits_for_news ≡ g.wait_for_news
-    pub course : IsNewCourse ready.survey p.history
-    pub unsaid : p.said ≡ None
     pub open_before : p.has_stopped ≡ false
-    pub heard : p.unheard ≡ 0
     pub log : w.run.log ≡ ready.log
-    pub nodes : w.run.nodes ≡ length ready.survey.rows
     pub counts : w.run.counts ≡ ready.counts
-    pub kind : w.run.kind ≡ Other
     pub moves : w.moves ≡ ready.moves
     pub pace : IsPaceOf g.keys_per_second w.pace
-    pub stop_file : w.run_context.stop_file.now ≡ g.stop_file
-    pub sees : w.run_context.is_blind ≡ false
-    pub screen : E
-    pub shown : Writes x.shows x.failures ready.notes.items screen w.run_context.errors.now
 
+-- by these words, at ports whose clock is of the type P
+module _ {I O S : Type 0} (P : Type 0) (ways : Ways I O S FileOut) (g : ApplyWords) where
   -- what was made ready ran so
   abbrev pub IsRunOf : Attempt → prepared.Prepared I O → ran.Ran FileOut → Type 0
-  IsRunOf a ready r = (p : port.ServersPort I O P) × (w : FileWatch H E) × StartsRun a ready p w
-      × IsRun (ways_of x) a.commands ready.plan p w r
+  IsRunOf a ready r = (p : port.ServersPort I O P) × (w : watch.Watch S FileOut) × StartsRun g a ready p w
+      × IsRun ways a.commands ready.plan p w r
 
-  -- what is left of these lines was made ready, with a log that continues this one, and ran so
-  abbrev pub IsRunOfRest : (lines : PlanView) → Attempt → Option Log → ran.Ran FileOut → Type 0
-  IsRunOfRest lines a log r = (rest : prepared.Prepared I O) × IsReadyAgain x g lines a log rest × IsRunOf a rest r
+  -- what is left of these lines was made ready, and ran so
+  abbrev pub IsRunOfRest : (lines : PlanView) → ran.Ran FileOut → Type 0
+  IsRunOfRest lines r = (a : Attempt) × (rest : prepared.Prepared I O) × IsPreparedRest a.batch lines rest
+      × IsRunOf a rest r
 
   -- ---- what follows a run
 
-  -- A run is over, and that is its end: the plan does not continue after it, or what is left could not be made ready.
-  -- Or it took too long, and what is left ran once more, with less to do at a time where a MIGRATE did.
-  abbrev pub IsNext : (lines : PlanView) → ran.Ran FileOut → (attempt : Attempt) → Next → (attempt' : Attempt)
-      → (screen' : E) → Type 0
-  IsNext lines r a (Over t) a' screen' = (t ≡ r.end) × (Continues r.trouble r.commands r.handed_over a false a'
-      ⊎ (Continues r.trouble r.commands r.handed_over a true a' × TellsUnready x screen'))
-  IsNext lines r a (Again r') a' screen' =
-      Continues r.trouble r.commands r.handed_over a true a' × IsRunOfRest lines a' r.log r'
+  -- A run is over, and that is its end; or it took too long, and what is left ran once more, with less to do at a time
+  -- where a MIGRATE did.
+  abbrev pub IsNext : (lines : PlanView) → ran.Ran FileOut → (attempt : Attempt) → Next → (attempt' : Attempt) → Type 0
+  IsNext lines r a (Over t) a' = (t ≡ r.end) × (r.trouble ≡ trouble.Other → a' ≡ a)
+  IsNext lines r a (Again r') a' = IsRunOfRest lines r' × Continues r.trouble r.commands r.handed_over a true a'
 
--- how often a plan continues at most
-abbrev pub most_attempts : ℕ
-most_attempts = 400
+  -- so the last of the runs after this one ended: it was the last, or what is left ran
+  abbrev pub IsEndBehind : (lines : PlanView) → ran.Ran FileOut → Transcript → Type 0
+  IsEndBehind lines r t = (t ≡ r.end) ⊎ ((r' : ran.Ran FileOut) × IsRunOfRest lines r' × (t ≡ r'.end))
 
--- So the last of the runs from this one on ended, where the plan may continue so often: this was the last, or it is the
--- last from the one that follows.
-unfoldable pub IsEndBehind : {I O E : Type 0} → (P H : Type 0) → Setting I O E → ApplyWords → (left : ℕ)
-    → (lines : PlanView) → Attempt → ran.Ran FileOut → Transcript → Type 0
-IsEndBehind P H x g zero lines a r t = t ≡ r.end
-IsEndBehind {I} {O} {E} P H x g (suc left) lines a r t =
-    ((a' : Attempt) × (screen' : E) × IsNext P H x g lines r a (Over t) a' screen')
-    ⊎ ((r' : ran.Ran FileOut) × (a' : Attempt) × (screen' : E) × IsNext P H x g lines r a (Again r') a' screen'
-    × IsEndBehind P H x g left lines a' r' t)
-
--- so the last of the runs ended: the first one, or one of what it left
-abbrev pub IsLastEnd : {I O E : Type 0} → (P H : Type 0) → Setting I O E → ApplyWords → Attempt
-    → prepared.Prepared I O → (lines : PlanView) → Transcript → Type 0
-IsLastEnd P H x g a ready lines t = (r : ran.Ran FileOut) × IsRunOf P H x g a ready r
-    × IsEndBehind P H x g most_attempts lines a r t
+  -- so the last of the runs ended: the first one, or one of what it left
+  abbrev pub IsLastEnd : Attempt → prepared.Prepared I O → (lines : PlanView) → Transcript → Type 0
+  IsLastEnd a ready lines t = (r : ran.Ran FileOut) × IsRunOf a ready r × IsEndBehind lines r t

@@ -1,8 +1,7 @@
 //! The command that carries a plan out at a cluster of servers.
-ghost use Rattle.cluster_runs.specs.Applying.{Applies, AppliesAt, EndsRun, Runs};
-ghost use Rattle.cluster_runs.specs.declared.patience.Patience as patience;
+ghost use Rattle.std.specs.Prelude.{◌≡◌};
+ghost use Rattle.cluster_runs.specs.Applying.{Applies, Runs};
 ghost use Rattle.command_words.specs.Clusters.{IsAddressed, IsApply};
-ghost use Rattle.server_settling.specs.Opened.{Writes};
 
 use crate::advice::{Rest, tell_rest};
 use crate::attempt::Attempt;
@@ -10,7 +9,7 @@ use crate::batches::batch_of;
 use crate::prepared::Prepared;
 use crate::preparing::prepare;
 use crate::runs::carry_out;
-use byte_streams::{ByteIn, ByteOut, MemoryOut, StandardOut, write_whole};
+use byte_streams::{ByteIn, ByteOut, write_whole};
 use cluster_inspection::{System, names_listed, out_of_memory, report, report_refusal};
 use command_words::ApplyWords;
 use plan_runner::Plan;
@@ -27,27 +26,13 @@ use transcripts::Transcript;
 /// was paused, and 1 otherwise. On `errors` stand the nodes' names, and how far the plan is, once a second; and where
 /// it is not done, what is open, and the command that continues.
 pub fn apply_plan<
-    'a,
     H: Net<Listener = TcpListener, Stream = TcpStream> + Clock + Files<File = File> + AllocGlobal,
     R: ByteIn,
     W: ByteOut,
     E: ByteOut,
->(system: &System<'a, H>, words: &ApplyWords, reader: &mut R, writer: &mut W, errors: &mut E) -> u8
+>(system: &System<'_, H>, words: &ApplyWords, reader: &mut R, writer: &mut W, errors: &mut E) -> u8
     requires { IsApply words.now }
-    ensures applies { Applies words.now.plan
-        (record { gave = R.gave; ends = R.ends; failures = R.failures; before = reader.old; after = reader.new })
-        (record { took = W.took; failures = W.failures; before = writer.old; after = writer.new }) result }
-    ensures asked { AppliesAt (patience.Patience H) H
-        (record {
-          login = system.now.credentials.now;
-          gave = ⟦<ServerInput<'a, H> as ByteIn>⟧.gave;
-          took = ⟦<ServerOutput<'a, H> as ByteOut>⟧.took;
-          log_took = ⟦<StandardOut<File> as ByteOut>⟧.took;
-          shows = E.took;
-          failures = E.failures;
-          notes = Writes ⟦<MemoryOut as ByteOut>⟧.took ⟦<MemoryOut as ByteOut>⟧.failures;
-        })
-        words.now
+    ensures { Applies words.now.plan
         (record { gave = R.gave; ends = R.ends; failures = R.failures; before = reader.old; after = reader.new })
         (record { took = W.took; failures = W.failures; before = writer.old; after = writer.new }) result }
 {
@@ -81,17 +66,7 @@ pub(crate) fn run<
     errors: &mut E,
 ) -> u8
     requires { IsAddressed words.now.cluster }
-    ensures { Runs (EndsRun (patience.Patience H) H
-        (record {
-          login = system.now.credentials.now;
-          gave = ⟦<ServerInput<'a, H> as ByteIn>⟧.gave;
-          took = ⟦<ServerOutput<'a, H> as ByteOut>⟧.took;
-          log_took = ⟦<StandardOut<File> as ByteOut>⟧.took;
-          shows = E.took;
-          failures = E.failures;
-          notes = Writes ⟦<MemoryOut as ByteOut>⟧.took ⟦<MemoryOut as ByteOut>⟧.failures;
-        })
-        words.now attempt prepared.entry lines.now) count.now.printed.items
+    ensures { Runs count.now.printed.items
         (record { took = W.took; failures = W.failures; before = writer.old; after = writer.new }) result }
 {
     if write_whole(writer, count.printed.as_slice()).is_err() {

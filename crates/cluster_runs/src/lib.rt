@@ -22,7 +22,6 @@ mod settling;
 mod shell_words;
 mod stop_files;
 mod targets;
-mod telling;
 mod trouble;
 
 pub use apply::apply_plan;

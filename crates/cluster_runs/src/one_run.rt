@@ -1,19 +1,17 @@
 //! One run of a plan at servers.
-ghost use Rattle.std.specs.Prelude.{◌≡◌, IfOk, None, OnOk, false, length};
+ghost use Rattle.std.specs.Prelude.{◌≡◌, IfOk, OnOk, false, length};
 ghost use Rattle.cluster_runs.specs.Ends.{ended_unlogged_text, stopped_unlogged_text};
+ghost use Rattle.cluster_runs.specs.Operators.{clock_tells, clock_waits, stop_file_asks};
 ghost use Rattle.cluster_runs.specs.Runs.{IsCarriedOut, IsPaceOf, IsRun, IsRunOf, IsTold};
 ghost use Rattle.cluster_runs.specs.Troubles.{trouble_of};
 ghost use Rattle.cluster_runs.specs.declared.patience.Patience as patience;
-ghost use Rattle.redis_servers.specs.RunHistories.{IsNewCourse};
-ghost use Rattle.server_settling.specs.Opened.{Writes};
 
 use crate::attempt::Attempt;
 use crate::operator::Operator;
 use crate::patience::Patience;
 use crate::prepared::Prepared;
-use crate::telling::tell;
 use crate::trouble::{Trouble, trouble_in};
-use byte_streams::{ByteIn, ByteOut, MemoryOut, StandardOut};
+use byte_streams::{ByteIn, ByteOut, StandardOut, write_whole};
 use cluster_admin::Survey;
 use cluster_inspection::{System, copy_of};
 use cluster_survey::FoundCluster;
@@ -58,15 +56,14 @@ pub(crate) fn run_once<
     prepared: Prepared<I, O>,
     errors: &mut E,
 ) -> Result<FileRan, AllocError>
-    ensures { IfOk result (IsRunOf (patience.Patience H) H
+    ensures { IfOk result (IsRunOf (patience.Patience H)
         (record {
-          login = system.now.credentials.now;
           gave = I.gave;
           took = O.took;
+          tells = clock_tells {H = H} {E = E};
+          waits = clock_waits {H = H} {E = E};
+          asks = stop_file_asks {H = H} {E = E};
           log_took = ⟦<StandardOut<File> as ByteOut>⟧.took;
-          shows = E.took;
-          failures = E.failures;
-          notes = Writes ⟦<MemoryOut as ByteOut>⟧.took ⟦<MemoryOut as ByteOut>⟧.failures;
         })
         words.now attempt.now prepared) }
 {
@@ -79,7 +76,7 @@ pub(crate) fn run_once<
         notes,
         log,
     } = prepared;
-    tell(errors, notes.as_slice());
+    let _shown = write_whole(errors, notes.as_slice());
     let nodes = survey.nodes();
     let port = port_of(
         system,
@@ -236,11 +233,7 @@ fn port_of<'a, H: Clock, I: ByteIn + Drop, O: ByteOut + Drop>(
     ensures links { IfOk result (λ p. p.links ≡ servers.links) }
     ensures setup { IfOk result (λ p. (p.setup.book ≡ servers.book) × (p.setup.timeout ≡ timeout)
         × (p.setup.survey ≡ survey) × (p.setup.waits_for_news ≡ waits_for_news)) }
-    ensures credentials { IfOk result (λ p. p.setup.credentials ≡ system.now.credentials.now) }
-    ensures course { IfOk result (λ p. IsNewCourse survey p.history) }
-    ensures said { IfOk result (λ p. p.said ≡ None) }
     ensures open { IfOk result (λ p. p.has_stopped ≡ false) }
-    ensures unheard { IfOk result (λ p. p.unheard ≡ 0) }
 {
     let FoundCluster { book, links, .. } = servers;
     let credentials = copy_of(system.alloc, system.credentials)?;

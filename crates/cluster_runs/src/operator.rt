@@ -23,14 +23,8 @@ pub(crate) struct Operator<'a, H, E> {
 }
 
 impl<'a, H: Clock + Files<File = File>, E: ByteOut> Operator<'a, H, E> {
-    ghost use Rattle.std.specs.Prelude.{◌≡◌, false};
-
     /// The plan begins now.
-    pub(crate) fn new(rt: &'a H, stop_file: &'a Option<String>, errors: &'a mut E) -> Self
-        ensures stop_file { result.stop_file.now ≡ stop_file.entry.now }
-        ensures errors { result.errors.now ≡ errors.old }
-        ensures sees { result.is_blind ≡ false }
-    {
+    pub(crate) fn new(rt: &'a H, stop_file: &'a Option<String>, errors: &'a mut E) -> Self {
         Self {
             rt,
             began: Instant::now(rt).ok(),

@@ -2,8 +2,7 @@
 ghost use Rattle.std.specs.Prelude.{◌≡◌, ℕ, List, IfErr, IfOk, Ok, vec_len};
 ghost use Rattle.cluster_runs.specs.Applying.{IsPlanInput};
 ghost use Rattle.cluster_runs.specs.Preparing.{IsPreparedAtClean, SaysCommands, moves_of, notes_text};
-ghost use Rattle.cluster_inspection.specs.Refusals.{IsRefusal, IsRefusalOf};
-ghost use Rattle.cluster_inspection.specs.Finding.{IsFoundAt, over_sockets};
+ghost use Rattle.cluster_inspection.specs.Refusals.{IsRefusal};
 ghost use Rattle.cluster_inspection.specs.Returning.{AreAway, dead_ids};
 ghost use Rattle.cluster_inspection.specs.Starts.{IsClean, IsExpectedBy, IsNumberedBy, names_listed};
 ghost use Rattle.command_words.specs.Clusters.{IsApply};
@@ -67,18 +66,13 @@ pub(crate) fn prepare<
         (record { gave = R.gave; ends = R.ends; failures = R.failures; before = reader.old; after = reader.new }) input
         × (any_plan_of_text input ≡ Ok r.2)) }
     ensures prepared { IfOk result (λ r. IsPreparedAtClean r.2 r.0) }
-    ensures at { IfOk result (λ r. IsFoundAt (over_sockets (record {
-      gave = ⟦<ServerInput<'a, H> as ByteIn>⟧.gave;
-      took = ⟦<ServerOutput<'a, H> as ByteOut>⟧.took;
-    }) system.now.credentials.now) words.now.cluster (names_listed r.2) r.0.servers) }
     ensures expected { IfOk result (λ r. IsExpectedBy words.now.cluster.expect r.0.servers.book) }
     ensures says { IfOk result (λ r. SaysCommands r.2 r.0.servers.surveyed.survey r.1.printed.items) }
     ensures away { IfOk result (λ r. AreAway (asks_of (record {
       gave = ⟦<ServerInput<'a, H> as ByteIn>⟧.gave;
       took = ⟦<ServerOutput<'a, H> as ByteOut>⟧.took;
     })) (dead_ids words.now.dead_for_good) (names_listed r.2) r.0.servers.left_out.items r.2.lines) }
-    ensures refusal { IfErr result (IsRefusalOf
-        (record { gave = R.gave; ends = R.ends; failures = R.failures; before = reader.old; after = reader.new })) }
+    ensures refusal { IfErr result IsRefusal }
 {
     let plan = plan_given(system, &words.plan, reader)?;
     let waiting = u64::from(words.timeout) + SPARE;
@@ -104,8 +98,7 @@ fn plan_given<H: Files<File = File> + AllocGlobal, R: ByteIn>(
         × IsPlanInput path.now
         (record { gave = R.gave; ends = R.ends; failures = R.failures; before = reader.old; after = reader.new }) input
         × (any_plan_of_text input ≡ Ok plan)) }
-    ensures refusal { IfErr result (IsRefusalOf
-        (record { gave = R.gave; ends = R.ends; failures = R.failures; before = reader.old; after = reader.new })) }
+    ensures refusal { IfErr result IsRefusal }
 {
     match path {
         Some(path) => plan_in_file(system, path.as_str()),
@@ -143,6 +136,8 @@ fn verified<I: Drop, O: Drop>(
     ensures prepared { IfOk result (λ r. IsPreparedAtClean plan r.0) }
     ensures servers { IfOk result (λ r. r.0.servers ≡ servers) }
     ensures says { IfOk result (λ r. SaysCommands plan servers.surveyed.survey r.1.printed.items) }
+    ensures shown { IfOk result (λ r. r.0.notes.items
+        ≡ notes_text servers.left_out.items servers.book servers.surveyed.survey plan) }
     ensures refusal { IfErr result IsRefusal }
 {
     let owners = servers.surveyed.survey.owners(NodeId::of(0)).try_copy()?;

@@ -3,7 +3,7 @@ ghost use Rattle.std.specs.Prelude.{◌≡◌, ◌++◌, IfErr, IfOk, IfSome, Ma
 ghost use Rattle.cluster_runs.specs.Preparing.{IsPreparedRest, TellsCommands, moves_of, notes_text};
 ghost use Rattle.cluster_inspection.specs.Refusals.{IsRefusal};
 ghost use Rattle.cluster_inspection.specs.Starts.{IsNumberedBy, names_listed};
-ghost use Rattle.cluster_runs.specs.Rests.{IsNamedRest, IsNothingLeft, moved_again_text};
+ghost use Rattle.cluster_runs.specs.Resuming.{IsNamedRest, IsNothingLeft, moved_again_text};
 ghost use Rattle.cluster_admin.specs.Surveys.{IsOpenSurvey};
 ghost use Rattle.plan_language.specs.Texts.{plan_text};
 ghost use Rattle.plan_runner.specs.Verifying.{IsVerified};

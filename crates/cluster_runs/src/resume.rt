@@ -1,14 +1,11 @@
 //! The command that closes open slots of a cluster of servers, and continues with a plan.
-ghost use Rattle.std.specs.Prelude.{◌≤◌, IfErr, IfOk, MatchOption, Option};
+ghost use Rattle.std.specs.Prelude.{◌≡◌, ◌≤◌, IfErr, IfOk, IfSome, MatchOption};
 ghost use Rattle.cluster_inspection.specs.Refusals.{IsRefusal};
-ghost use Rattle.cluster_runs.specs.Continuing.{IsReadyAgain};
-ghost use Rattle.cluster_runs.specs.Preparing.{TellsCommands};
-ghost use Rattle.cluster_runs.specs.Rests.{AreLinesOf, IsNothingLeft};
-ghost use Rattle.cluster_runs.specs.Resuming.{GoesOnAt, Resumes, ResumesAt};
-ghost use Rattle.cluster_runs.specs.Runs.{Log};
-ghost use Rattle.cluster_runs.specs.declared.patience.Patience as patience;
+ghost use Rattle.cluster_inspection.specs.Returning.{AreAway, dead_ids};
+ghost use Rattle.cluster_inspection.specs.Starts.{names_listed};
+ghost use Rattle.cluster_runs.specs.Resuming.{AreLinesOf, GoesOn, IsNothingLeft, IsOpenCount, Resumes};
 ghost use Rattle.command_words.specs.Resuming.{IsResume};
-ghost use Rattle.server_settling.specs.Opened.{Writes};
+ghost use Rattle.server_shards.specs.Returning.{asks_of};
 
 use crate::advice::Rest;
 use crate::apply::run;
@@ -20,7 +17,7 @@ use crate::preparing::{SPARE, plan_in_file};
 use crate::rests::rest_of;
 use crate::settled_rests::settled;
 use crate::stop_files::check_stop_file;
-use byte_streams::{ByteIn, ByteOut, MemoryOut, StandardOut};
+use byte_streams::{ByteIn, ByteOut};
 use cluster_inspection::{
     Refusal, System, check_returning, find_cluster, names_listed, plan_of, refused, report_refusal,
     show,
@@ -43,26 +40,14 @@ const CLEAN: &[u8] = b"clean, nothing to resume\n";
 /// It prints what [`apply_plan`](crate::apply_plan) prints, with its status; or that there is nothing to do, with the
 /// status 0; and then what [`tell_stranded`](cluster_inspection::tell_stranded) prints, with its status.
 pub fn resume_plan<
-    'a,
     H: Net<Listener = TcpListener, Stream = TcpStream> + Clock + Files<File = File> + AllocGlobal,
     W: ByteOut,
     E: ByteOut,
->(system: &System<'a, H>, words: &ResumeWords, writer: &mut W, errors: &mut E) -> u8
+>(system: &System<'_, H>, words: &ResumeWords, writer: &mut W, errors: &mut E) -> u8
     requires { IsResume words.now }
     ensures status { result ≤ 3 }
     ensures resumes { Resumes words.now
         (record { took = W.took; failures = W.failures; before = writer.old; after = writer.new }) result }
-    ensures asked { ResumesAt (patience.Patience H) H
-        (record {
-          login = system.now.credentials.now;
-          gave = ⟦<ServerInput<'a, H> as ByteIn>⟧.gave;
-          took = ⟦<ServerOutput<'a, H> as ByteOut>⟧.took;
-          log_took = ⟦<StandardOut<File> as ByteOut>⟧.took;
-          shows = E.took;
-          failures = E.failures;
-          notes = Writes ⟦<MemoryOut as ByteOut>⟧.took ⟦<MemoryOut as ByteOut>⟧.failures;
-        })
-        words.now (record { took = W.took; failures = W.failures; before = writer.old; after = writer.new }) result }
 {
     let status = go_on(system, words, writer, errors);
     look_further(system, words, status, writer)
@@ -70,23 +55,13 @@ pub fn resume_plan<
 
 /// Closes open slots and continues with the plan, as far as there is something to do.
 fn go_on<
-    'a,
     H: Net<Listener = TcpListener, Stream = TcpStream> + Clock + Files<File = File> + AllocGlobal,
     W: ByteOut,
     E: ByteOut,
->(system: &System<'a, H>, words: &ResumeWords, writer: &mut W, errors: &mut E) -> u8
+>(system: &System<'_, H>, words: &ResumeWords, writer: &mut W, errors: &mut E) -> u8
     requires { IsResume words.now }
-    ensures { GoesOnAt (patience.Patience H) H
-        (record {
-          login = system.now.credentials.now;
-          gave = ⟦<ServerInput<'a, H> as ByteIn>⟧.gave;
-          took = ⟦<ServerOutput<'a, H> as ByteOut>⟧.took;
-          log_took = ⟦<StandardOut<File> as ByteOut>⟧.took;
-          shows = E.took;
-          failures = E.failures;
-          notes = Writes ⟦<MemoryOut as ByteOut>⟧.took ⟦<MemoryOut as ByteOut>⟧.failures;
-        })
-        words.now (record { took = W.took; failures = W.failures; before = writer.old; after = writer.new }) result }
+    ensures { GoesOn words.now
+        (record { took = W.took; failures = W.failures; before = writer.old; after = writer.new }) result }
 {
     let lines = match lines_of(system, &words.run.plan) {
         Ok(lines) => lines,
@@ -141,17 +116,12 @@ fn prepared_rest<
 >
     requires { IsResume words.now }
     ensures left { IfOk result (λ o. MatchOption o (IsNothingLeft attempt.now.batch lines.now)
-        (λ p. TellsCommands p.0 p.1.printed.items × ((log : Option Log) × IsReadyAgain
-        (record {
-          login = system.now.credentials.now;
-          gave = ⟦<ServerInput<'a, H> as ByteIn>⟧.gave;
-          took = ⟦<ServerOutput<'a, H> as ByteOut>⟧.took;
-          log_took = ⟦<StandardOut<File> as ByteOut>⟧.took;
-          shows = E.took;
-          failures = E.failures;
-          notes = Writes ⟦<MemoryOut as ByteOut>⟧.took ⟦<MemoryOut as ByteOut>⟧.failures;
-        })
-        words.now.run lines.now attempt.now log p.0))) }
+        (λ p. IsOpenCount attempt.now.batch lines.now p.1.printed.items)) }
+    ensures away { IfOk result (λ o. IfSome o (λ p. AreAway (asks_of (record {
+      gave = ⟦<ServerInput<'a, H> as ByteIn>⟧.gave;
+      took = ⟦<ServerOutput<'a, H> as ByteOut>⟧.took;
+    })) (dead_ids words.now.run.dead_for_good) (names_listed lines.now) p.0.servers.left_out.items
+        p.0.plan.plan.lines)) }
     ensures refusal { IfErr result IsRefusal }
 {
     let waiting = u64::from(words.run.timeout) + SPARE;

@@ -1,16 +1,15 @@
 //! A plan that runs at servers, and continues after a command that took longer than it may.
 ghost use Rattle.std.specs.Prelude.{◌≡◌, IfOk};
+ghost use Rattle.cluster_runs.specs.Operators.{clock_tells, clock_waits, stop_file_asks};
 ghost use Rattle.cluster_runs.specs.Runs.{IsEndBehind, IsLastEnd, IsNext};
 ghost use Rattle.cluster_runs.specs.declared.patience.Patience as patience;
 ghost use Rattle.command_words.specs.Clusters.{IsAddressed};
-ghost use Rattle.server_settling.specs.Opened.{Writes};
 
 use crate::attempt::Attempt;
 use crate::one_run::{FileRan, Ran, run_once};
 use crate::prepared::Prepared;
 use crate::settled_rests::prepare_again;
-use crate::telling::tell;
-use byte_streams::{ByteIn, ByteOut, MemoryOut, StandardOut};
+use byte_streams::{ByteIn, ByteOut, StandardOut, write_whole};
 use cluster_inspection::{Refusal, System};
 use command_words::ApplyWords;
 use plan_runner::Plan;
@@ -48,15 +47,14 @@ pub(crate) fn carry_out<
     errors: &mut E,
 ) -> Result<Transcript, AllocError>
     requires { IsAddressed words.now.cluster }
-    ensures { IfOk result (IsLastEnd (patience.Patience H) H
+    ensures { IfOk result (IsLastEnd (patience.Patience H)
         (record {
-          login = system.now.credentials.now;
           gave = ⟦<ServerInput<'a, H> as ByteIn>⟧.gave;
           took = ⟦<ServerOutput<'a, H> as ByteOut>⟧.took;
+          tells = clock_tells {H = H} {E = E};
+          waits = clock_waits {H = H} {E = E};
+          asks = stop_file_asks {H = H} {E = E};
           log_took = ⟦<StandardOut<File> as ByteOut>⟧.took;
-          shows = E.took;
-          failures = E.failures;
-          notes = Writes ⟦<MemoryOut as ByteOut>⟧.took ⟦<MemoryOut as ByteOut>⟧.failures;
         })
         words.now attempt prepared.entry lines.now) }
 {
@@ -89,17 +87,16 @@ fn carry_on<
     left: u16,
 ) -> Result<Transcript, AllocError>
     requires { IsAddressed words.now.cluster }
-    ensures { IfOk result (IsEndBehind (patience.Patience H) H
+    ensures { IfOk result (IsEndBehind (patience.Patience H)
         (record {
-          login = system.now.credentials.now;
           gave = ⟦<ServerInput<'a, H> as ByteIn>⟧.gave;
           took = ⟦<ServerOutput<'a, H> as ByteOut>⟧.took;
+          tells = clock_tells {H = H} {E = E};
+          waits = clock_waits {H = H} {E = E};
+          asks = stop_file_asks {H = H} {E = E};
           log_took = ⟦<StandardOut<File> as ByteOut>⟧.took;
-          shows = E.took;
-          failures = E.failures;
-          notes = Writes ⟦<MemoryOut as ByteOut>⟧.took ⟦<MemoryOut as ByteOut>⟧.failures;
         })
-        words.now left lines.now attempt.old ran) }
+        words.now lines.now ran) }
 {
     if left == 0 {
         return Ok(ran.end);
@@ -116,6 +113,7 @@ fn carry_on<
 
 /// Runs what is left of the plan where it stopped at a command that took longer than it may, if the slot can be
 /// settled.
+#[tactic(auto, using(crate::proofs::Attempts::unchanged, crate::proofs::Ended::next_again))]
 fn go_on<
     'a,
     H: Net<Listener = TcpListener, Stream = TcpStream> + Clock + Files<File = File> + AllocGlobal,
@@ -129,17 +127,16 @@ fn go_on<
     errors: &mut E,
 ) -> Result<Next, AllocError>
     requires { IsAddressed words.now.cluster }
-    ensures { IfOk result (λ next. IsNext (patience.Patience H) H
+    ensures { IfOk result (λ next. IsNext (patience.Patience H)
         (record {
-          login = system.now.credentials.now;
           gave = ⟦<ServerInput<'a, H> as ByteIn>⟧.gave;
           took = ⟦<ServerOutput<'a, H> as ByteOut>⟧.took;
+          tells = clock_tells {H = H} {E = E};
+          waits = clock_waits {H = H} {E = E};
+          asks = stop_file_asks {H = H} {E = E};
           log_took = ⟦<StandardOut<File> as ByteOut>⟧.took;
-          shows = E.took;
-          failures = E.failures;
-          notes = Writes ⟦<MemoryOut as ByteOut>⟧.took ⟦<MemoryOut as ByteOut>⟧.failures;
         })
-        words.now lines.now ran attempt.old next attempt.new errors.new) }
+        words.now lines.now ran attempt.old next attempt.new) }
 {
     let Ran {
         end,
@@ -151,13 +148,13 @@ fn go_on<
     if !attempt.continues(&trouble, commands, handed_over) {
         return Ok(Next::Over(end));
     }
-    tell(errors, end.printed.as_slice());
+    let _told = write_whole(errors, end.printed.as_slice());
     match prepare_again(system, words, lines, attempt, log, errors) {
         Ok(prepared) => Ok(Next::Again(run_once(system, words, attempt, prepared, errors)?)),
         Err(Refusal::Memory) => Err(AllocError),
-        Err(Refusal::Unread) => unreachable!(),
+        Err(Refusal::Unread) => Ok(Next::Over(end)),
         Err(Refusal::Answer(answer)) => {
-            tell(errors, answer.printed.as_slice());
+            let _why = write_whole(errors, answer.printed.as_slice());
             Ok(Next::Over(end))
         }
     }

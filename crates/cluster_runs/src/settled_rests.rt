@@ -1,13 +1,14 @@
 //! What is left of a plan once the open slots are settled.
-ghost use Rattle.std.specs.Prelude.{◌≡◌, ◌++◌, ℕ, List, [], ◌∷◌, IfErr, IfOk, Some, length, vec_len};
+ghost use Rattle.std.specs.Prelude.{◌≡◌, IfErr, IfOk, length, vec_len};
 ghost use Rattle.cluster_runs.specs.Preparing.{IsPreparedRest};
 ghost use Rattle.cluster_inspection.specs.Refusals.{IsRefusal};
-ghost use Rattle.cluster_runs.specs.Continuing.{IsReadyAgain};
-ghost use Rattle.cluster_runs.specs.Settling.{IsSettledFrom, IsSettledRest, LogsLines};
+ghost use Rattle.cluster_inspection.specs.Returning.{AreAway, dead_ids};
+ghost use Rattle.cluster_inspection.specs.Starts.{names_listed};
+ghost use Rattle.cluster_runs.specs.Settling.{IsSettledFrom, IsSettledRest};
 ghost use Rattle.cluster_runs.specs.Targets.{AreTargetsEmpty};
 ghost use Rattle.command_words.specs.Clusters.{IsAddressed};
 ghost use Rattle.server_settling.specs.Asking.{Sends};
-ghost use Rattle.server_runs.specs.RunLogs.{IsTimed, Logs};
+ghost use Rattle.server_shards.specs.Returning.{asks_of};
 ghost use Rattle.server_settling.specs.Opened.{Writes};
 
 use crate::attempt::Attempt;
@@ -18,8 +19,7 @@ use crate::preparing::SPARE;
 use crate::rests::rest_of;
 use crate::settling::settle_open;
 use crate::targets::check_targets;
-use crate::telling::tell;
-use byte_streams::{ByteIn, ByteOut, MemoryOut, StandardOut};
+use byte_streams::{ByteIn, ByteOut, MemoryOut, write_whole};
 use byte_texts::Parts;
 use cluster_inspection::{
     Refusal, System, check_returning, copy_of, find_cluster, names_listed, refused,
@@ -28,7 +28,7 @@ use cluster_survey::FoundCluster;
 use command_words::ApplyWords;
 use plan_runner::Plan;
 use server_links::{ServerInput, ServerOutput};
-use server_runs::{Counts, RunLog};
+use server_runs::Counts;
 use server_settling::SettleSetup;
 use std::alloc::AllocError;
 use std::fs::{File, Files};
@@ -50,17 +50,19 @@ pub(crate) fn prepare_again<
     errors: &mut E,
 ) -> Result<Prepared<ServerInput<'a, H>, ServerOutput<'a, H>>, Refusal>
     requires { IsAddressed words.now.cluster }
-    ensures ready { IfOk result (IsReadyAgain
-        (record {
-          login = system.now.credentials.now;
-          gave = ⟦<ServerInput<'a, H> as ByteIn>⟧.gave;
-          took = ⟦<ServerOutput<'a, H> as ByteOut>⟧.took;
-          log_took = ⟦<StandardOut<File> as ByteOut>⟧.took;
-          shows = E.took;
-          failures = E.failures;
-          notes = Writes ⟦<MemoryOut as ByteOut>⟧.took ⟦<MemoryOut as ByteOut>⟧.failures;
-        })
-        words.now lines.now attempt.now log) }
+    ensures prepared { IfOk result (IsPreparedRest attempt.now.batch lines.now) }
+    ensures settled { IfOk result (IsSettledRest (record {
+      gave = ⟦<ServerInput<'a, H> as ByteIn>⟧.gave;
+      took = ⟦<ServerOutput<'a, H> as ByteOut>⟧.took;
+    }) (Writes ⟦<MemoryOut as ByteOut>⟧.took ⟦<MemoryOut as ByteOut>⟧.failures) attempt.now) }
+    ensures targets { IfOk result (λ p. AreTargetsEmpty (Sends (record {
+      gave = ⟦<ServerInput<'a, H> as ByteIn>⟧.gave;
+      took = ⟦<ServerOutput<'a, H> as ByteOut>⟧.took;
+    })) p.servers.surveyed.survey lines.now.lines) }
+    ensures away { IfOk result (λ p. AreAway (asks_of (record {
+      gave = ⟦<ServerInput<'a, H> as ByteIn>⟧.gave;
+      took = ⟦<ServerOutput<'a, H> as ByteOut>⟧.took;
+    })) (dead_ids words.now.dead_for_good) (names_listed lines.now) p.servers.left_out.items p.plan.plan.lines) }
     ensures refusal { IfErr result IsRefusal }
 {
     let waiting = u64::from(attempt.timeout) + SPARE;
@@ -86,17 +88,12 @@ pub(crate) fn settled<H: Clock, I: ByteIn + Drop, O: ByteOut + Drop, E: ByteOut>
 ) -> Result<Prepared<I, O>, Refusal>
     requires { IsPreparedRest attempt.now.batch lines.now prepared }
     ensures prepared { IfOk result (IsPreparedRest attempt.now.batch lines.now) }
-    ensures settled { IfOk result (IsSettledRest
-        (record {
-          login = system.now.credentials.now;
-          gave = I.gave;
-          took = O.took;
-          log_took = ⟦<StandardOut<File> as ByteOut>⟧.took;
-          shows = E.took;
-          failures = E.failures;
-          notes = Writes ⟦<MemoryOut as ByteOut>⟧.took ⟦<MemoryOut as ByteOut>⟧.failures;
-        })
-        attempt.now log prepared.servers.links.items) }
+    ensures settled { IfOk result (λ p. IsSettledFrom (record { gave = I.gave; took = O.took })
+        (Writes ⟦<MemoryOut as ByteOut>⟧.took ⟦<MemoryOut as ByteOut>⟧.failures) attempt.now (record {
+          book = prepared.servers.book;
+          survey = prepared.servers.surveyed.survey;
+          links = prepared.servers.links.items;
+        }) p.counts) }
     ensures servers { IfOk result (λ p. (p.servers.book ≡ prepared.servers.book)
         × (p.servers.surveyed ≡ prepared.servers.surveyed)) }
     ensures left { IfOk result (λ p. p.servers.left_out ≡ prepared.servers.left_out) }
@@ -117,9 +114,8 @@ pub(crate) fn settled<H: Clock, I: ByteIn + Drop, O: ByteOut + Drop, E: ByteOut>
     } = prepared;
     let mut told = MemoryOut::new(system.alloc, usize::MAX);
     let settling = settle(system, servers, lines, attempt, &mut told);
-    let text = told.bytes.as_slice();
-    tell(errors, text);
-    let log = with_lines(system, log, text);
+    let _shown = write_whole(errors, told.bytes.as_slice());
+    let log = with_lines(system, log, told.bytes.as_slice());
     let (servers, counts) = settling?;
     Ok(Prepared {
         servers,
@@ -132,47 +128,21 @@ pub(crate) fn settled<H: Clock, I: ByteIn + Drop, O: ByteOut + Drop, E: ByteOut>
     })
 }
 
-/// The log with these lines at its end, each with the time before it, if there is a log.
-fn with_lines<H: Clock>(system: &System<'_, H>, log: Option<Log>, text: &[u8]) -> Option<Log>
-    ensures { LogsLines ⟦<StandardOut<File> as ByteOut>⟧.took text.now log result }
-{
-    match log {
-        Some(log) => Some(with_each(system, log, text)),
-        None => None,
-    }
-}
-
-/// The log with these lines at its end.
-fn with_each<H: Clock, L: ByteOut + Drop>(
-    system: &System<'_, H>,
-    log: RunLog<L>,
-    text: &[u8],
-) -> RunLog<L>
-    ensures { LogsLines L.took text.now (Some log) (Some result) }
-{
-    let mut log = log;
+/// The log with these lines at its end, each with the time before it.
+fn with_lines<H: Clock>(system: &System<'_, H>, log: Option<Log>, text: &[u8]) -> Option<Log> {
+    let mut log = log?;
     let mut lines = Parts::of(text, b'\n');
     while let Some(line) = lines.next_whole() {
-        put_line(&mut log, timed(system, line));
+        match timed(system, line) {
+            Ok(line) => log.write(line.as_slice()),
+            Err(AllocError) => log.give_up(),
+        }
     }
-    log
-}
-
-/// Writes the line, where there was memory for it.
-fn put_line<L: ByteOut + Drop>(log: &mut RunLog<L>, line: Result<Vec<u8>, AllocError>)
-    ensures { (text : List ℕ) → IfOk line (λ l. IsTimed text l.items)
-        → Logs L.took text (Some log.old) (Some log.new) }
-{
-    match line {
-        Ok(line) => log.write(line.as_slice()),
-        Err(AllocError) => log.give_up(),
-    }
+    Some(log)
 }
 
 /// The line with the time before it, and its end.
-fn timed<H: Clock>(system: &System<'_, H>, line: &[u8]) -> Result<Vec<u8>, AllocError>
-    ensures { IfOk result (λ t. IsTimed (line.now ++ 10 ∷ []) t.items) }
-{
+fn timed<H: Clock>(system: &System<'_, H>, line: &[u8]) -> Result<Vec<u8>, AllocError> {
     let mut timed = time_of_day(system.rt, system.alloc)?;
     timed.push(b' ')?;
     timed.extend_from_slice(line)?;
@@ -189,9 +159,8 @@ fn settle<H: Clock, I: ByteIn + Drop, O: ByteOut + Drop, E: ByteOut>(
     told: &mut E,
 ) -> Result<(FoundCluster<I, O>, Counts), Refusal>
     ensures settled { IfOk result (λ p. IsSettledFrom (record { gave = I.gave; took = O.took })
-        (Writes E.took E.failures) system.now.credentials.now attempt.now
-        (record { book = servers.book; survey = servers.surveyed.survey; links = servers.links.items })
-        told.old told.new p.1) }
+        (Writes E.took E.failures) attempt.now
+        (record { book = servers.book; survey = servers.surveyed.survey; links = servers.links.items }) p.1) }
     ensures survey { IfOk result (λ p. p.0.surveyed ≡ servers.surveyed) }
     ensures book { IfOk result (λ p. p.0.book ≡ servers.book) }
     ensures left { IfOk result (λ p. p.0.left_out ≡ servers.left_out) }
@@ -206,11 +175,10 @@ fn settle<H: Clock, I: ByteIn + Drop, O: ByteOut + Drop, E: ByteOut>(
         surveyed,
         left_out,
     } = servers;
-    let credentials = copy_of(system.alloc, system.credentials)?;
     let setup = SettleSetup {
         book,
         timeout: attempt.timeout,
-        credentials,
+        credentials: copy_of(system.alloc, system.credentials)?,
         batch: attempt.batch,
     };
     let survey = &surveyed.survey;

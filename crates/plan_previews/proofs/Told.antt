@@ -8,9 +8,7 @@ use Rattle.command_words.specs.declared.usage.Start.{Start}
 use Rattle.command_words.specs.declared.usage.Start.TheVariants.{Cluster, Even, Survey}
 use Rattle.plan_previews.specs.Drawing.{Draws}
 use Rattle.plan_previews.specs.Explaining.{SaysExplained}
-use Rattle.cluster_inspection.specs.VerifyingAt.{Counting, any_counting}
-use Rattle.plan_previews.specs.Previews.{IsShownIn, IsUnshown, TellsWhy}
-use Rattle.plan_previews.specs.declared.preview.Preview.{Preview}
+use Rattle.plan_previews.specs.Previews.{IsUnshown, TellsWhy}
 use Rattle.plan_previews.specs.Refusing.{IsAnswerOf}
 use Rattle.plan_previews.specs.Telling.{IsToldTo}
 use Rattle.transcripts.specs.declared.transcript.Transcript.{Transcript}
@@ -23,39 +21,24 @@ why_one (Cluster g) i t (inr (inl none)) = none.0
 why_one (Survey path) i t (inr (inl none)) = none.0
 why_one start i t (inr (inr fault)) = fault.2.2.2.3
 
-pub refused_says : {R : Type 0} (counting : Counting) (g : ExplainWords) (i : Input R) (r : Refusal) (t : Transcript)
-    → IsUnshown g.start i r → IsAnswerOf g.json r t → SaysExplained counting g i t.status t.printed.items
-refused_says counting g i refusal.Memory t why is = absurd is
-refused_says counting g i refusal.Unread t why is = absurd is
-refused_says counting g i (refusal.Answer a) t why is = inr (a, why, is.0 ∙ why_one g.start i a why, is.1)
+pub refused_says : {R : Type 0} (g : ExplainWords) (i : Input R) (r : Refusal) (t : Transcript) → IsUnshown g.start i r
+    → IsAnswerOf g.json r t → SaysExplained g i t.status t.printed.items
+refused_says g i refusal.Memory t why is = absurd is
+refused_says g i refusal.Unread t why is = absurd is
+refused_says g i (refusal.Answer a) t why is = inr (a, why, is.0 ∙ why_one g.start i a why, is.1)
 
-pub few : {R : Type 0} (counting : Counting) (g : ExplainWords) (i : Input R) (status : ℕ) (text : List ℕ)
-    → SaysExplained counting g i status text → status ≤ 1
-few counting g i status text (inl shown) =
+pub few : {R : Type 0} (g : ExplainWords) (i : Input R) (status : ℕ) (text : List ℕ) → SaysExplained g i status text → status ≤ 1
+few g i status text (inl shown) =
     let none : status ≡ 0 = shown.2 in
     omega (arith, none)
-few counting g i status text (inr refused) =
+few g i status text (inr refused) =
     let one : status ≡ 1 = refused.2 in
     omega (arith, one)
-
--- with some keys, where it is with keys that were counted
-shown_some : {R : Type 0} (counting : Counting) (start : Start) (i : Input R) (p : Preview)
-    → IsShownIn counting start i p → IsShownIn any_counting start i p
-shown_some counting (Even s) i p shown = shown
-shown_some counting (Cluster g) i p (input, read, plan, is, o, clean, keys, servers) =
-    (input, read, (plan, is, (o, clean, (keys.0, tt, keys.2), servers)))
-shown_some counting (Survey path) i p shown = shown
-
-pub some_keys : {R : Type 0} (counting : Counting) (g : ExplainWords) (i : Input R) (status : ℕ) (text : List ℕ)
-    → SaysExplained counting g i status text → SaysExplained any_counting g i status text
-some_keys counting g i status text (inl shown) =
-    inl (shown.0, shown_some counting g.start i shown.0 shown.1, shown.2, shown.3)
-some_keys counting g i status text (inr refused) = inr refused
 
 pub undrawn : {R W E : Type 0} (start : Start) (i : Input R) (o : Output W) (e : Output E) (status : ℕ) (r : Refusal)
     → o.after ≡ o.before → IsUnshown start i r → IsToldTo r e status → Draws start i o e status
 undrawn start i o e status refusal.Memory same why told = inr (told.0, same, inr (inl told.1))
-undrawn start i o e status refusal.Unread same why told = inr (told.0, same, inr (inr (told.1, why)))
+undrawn start i o e status refusal.Unread same why told = inr (told.0, same, inr (inr told.1))
 undrawn start i o e status (refusal.Answer t) same why (inl whole) =
     inr (whole.0 ∙ why_one start i t why, same, inl (t, why, inl whole.1))
 undrawn start i o e status (refusal.Answer t) same why (inr partly) =

@@ -3,10 +3,9 @@ use Rattle.std.proofs.Common.{◌≡◌, ◌⊎◌, ℕ, List, [], Option, None,
 use Rattle.std.specs.Prelude.{IfErr, MatchOption}
 use Rattle.byte_streams.specs.Inputs.{IsWholeInput}
 use Rattle.byte_streams.specs.Streams.{Input}
-use Rattle.cluster_inspection.specs.Refusals.{FailsToRead, IsNoClusterOf, IsNoPlanIn, plan_from}
+use Rattle.cluster_inspection.specs.Refusals.{IsNoClusterOf, IsNoPlanIn, plan_from}
 use Rattle.cluster_inspection.specs.Starts.{AreCleanOwners, IsUnfound, IsUnstarted, SaysNoStart, StartsFrom}
 use Rattle.cluster_inspection.specs.Starts.{names_listed}
-use Rattle.cluster_inspection.specs.VerifyingAt.{Counting}
 use Rattle.cluster_inspection.specs.declared.no_cluster.NoCluster.{NoCluster}
 use Rattle.cluster_inspection.specs.declared.no_cluster.NoCluster.TheVariants as none
 use Rattle.cluster_inspection.specs.declared.refusal.Refusal.{Refusal}
@@ -31,7 +30,7 @@ IsRead plan_of i plan = (input : List ℕ) × IsWholeInput i.gave i.ends i.befor
 module _ {R : Type 0} (i : Input R) where
   pub no_plan : (start : Start) (r : Refusal) → IsNoPlanIn (plan_from start) i r → IsUnshown start i r
   no_plan start refusal.Memory h = tt
-  no_plan start refusal.Unread h = h
+  no_plan start refusal.Unread h = tt
   no_plan start (refusal.Answer t) h = inl h
 
   pub no_start : (start : Start) (u : NoCluster) (r : Refusal) → IsUnstarted start u → IsNoClusterOf u r → IsUnshown start i r
@@ -63,13 +62,8 @@ module _ {R : Type 0} (i : Input R) where
   plain_shown start book o plan p read from preview servers =
       (read.0, read.1, (plan, read.2, (o, (book, from), preview, servers)))
 
-  pub counted_shown : (counting : Counting) (plan : PlanView) (p : Preview) → IsRead any_plan_of_text i plan
-      → IsPreviewAt counting plan p → IsCountedIn counting i p
-  counted_shown counting plan p read at = (read.0, read.1, (plan, read.2, at))
-
-  -- nothing is told, as the plan could not be read
-  pub unread : (start : Start) (r : Refusal) → IsUnshown start i r → r ≡ refusal.Unread → FailsToRead i
-  unread start r why is = subst (IsUnshown start i) is why
+  pub counted_shown : (plan : PlanView) (p : Preview) → IsRead any_plan_of_text i plan → IsPreviewAt plan p → IsCountedIn i p
+  counted_shown plan p read at = (read.0, read.1, (plan, read.2, at))
 
 -- ---- at the servers of a cluster
 

@@ -1,8 +1,6 @@
 -- What servers tell of the keys that a plan moves, and of themselves.
 use Rattle.std.specs.Prelude.{◌≡◌, ◌<◌, ℕ, List, Some, length, slice_get}
-use Rattle.cluster_admin.specs.Surveys.{Survey}
-use Rattle.cluster_inspection.specs.Starts.{SaysNoStart, owners_told}
-use Rattle.cluster_inspection.specs.VerifyingAt.{counting_by}
+use Rattle.cluster_inspection.specs.Starts.{SaysNoStart}
 use Rattle.cluster_inspection.specs.declared.refusal.Refusal.{Refusal}
 use Rattle.cluster_inspection.specs.declared.refusal.Refusal.TheVariants as refusal
 use Rattle.plan_language.specs.Lines.{plan_commands}
@@ -12,7 +10,6 @@ use Rattle.plan_outlines.specs.declared.nodes.NodeServer.{NodeServer}
 use Rattle.plan_previews.specs.declared.counting.Counts.{Counts}
 use Rattle.server_commands.specs.Servers.{server_at}
 use Rattle.server_commands.specs.declared.book.Server.{Server}
-use Rattle.server_links.specs.Streams.{Streams}
 
 -- this is the server of the book
 pub record IsServer (n : ℕ) (s : Server) (t : NodeServer) : Type 0 where
@@ -26,11 +23,8 @@ abbrev pub AreServers : List Server → List NodeServer → Type 0
 AreServers book told = (length told ≡ length book)
     × ((n : ℕ) → n < length book → (t : NodeServer) × (slice_get told n ≡ Some t) × IsServer n (server_at book n) t)
 
--- the keys of each slot that the plan moves, as the owners told them that show this survey, what the plan moves by
--- these, and the servers
-pub record AreCounts {I O : Type 0} (by : Streams I O) (v : Survey) (book : List Server) (plan : PlanView) (c : Counts)
-    : Type 0 where
-  pub counted : counting_by by (owners_told v) plan c.keys.items
+-- some keys of each slot, what the plan moves by them, and the servers
+pub record AreCounts (book : List Server) (plan : PlanView) (c : Counts) : Type 0 where
   pub width : length c.keys.items ≡ 16384
   pub load : c.load ≡ load_of c.keys.items (plan_commands (length book) plan.lines)
   pub servers : AreServers book c.servers.items

@@ -2,8 +2,6 @@
 use Rattle.std.specs.Prelude.{◌≡◌, ◌⊎◌, ℕ, Bool, true, false, List, ◌∷◌, ◌++◌, codes}
 use Rattle.byte_streams.specs.Streams.{Input, Output}
 use Rattle.cluster_inspection.specs.Answers.{Tells}
-use Rattle.cluster_inspection.specs.Refusals.{FailsToRead}
-use Rattle.cluster_inspection.specs.VerifyingAt.{Counting, any_counting}
 use Rattle.command_words.specs.declared.usage.ExplainWords.{ExplainWords}
 use Rattle.plan_json.specs.Values.{line_of, outline_data}
 use Rattle.plan_pages.specs.Pages.{page_text}
@@ -20,21 +18,16 @@ explained_text true p = line_of (outline_data p.outline p.servers.items p.comman
 explained_text false p =
     p.verdict.printed.items ++ (10 ∷ page_text p.outline p.servers.items (resume_text p.version))
 
--- what the plan that was read comes to, with keys that are counted so, or why it is refused
-abbrev pub SaysExplained : {R : Type 0} → Counting → ExplainWords → Input R → (status : ℕ) → (text : List ℕ) → Type 0
-SaysExplained counting g i status text =
-    ((p : Preview) × IsShownIn counting g.start i p × (status ≡ 0) × (text ≡ explained_text g.json p))
+-- what the plan that was read comes to, or why it is refused
+abbrev pub SaysExplained : {R : Type 0} → ExplainWords → Input R → (status : ℕ) → (text : List ℕ) → Type 0
+SaysExplained g i status text =
+    ((p : Preview) × IsShownIn g.start i p × (status ≡ 0) × (text ≡ explained_text g.json p))
     ⊎ ((t : Transcript) × TellsWhy g.start i t × (status ≡ 1) × (text ≡ refused_text g.json t.printed.items))
 
 -- memory ran out, which is told as far as it can be; or the plan could not be read, and nothing is told
-abbrev pub TellsNothing : {R W : Type 0} → Input R → Output W → (status : ℕ) → Type 0
-TellsNothing i o status = (status ≡ 1)
-    × (Writes o.took o.failures (codes "out of memory\n") o.before o.after
-    ⊎ ((o.after ≡ o.before) × FailsToRead i))
+abbrev pub TellsNothing : {W : Type 0} → Output W → (status : ℕ) → Type 0
+TellsNothing o status = (status ≡ 1)
+    × (Writes o.took o.failures (codes "out of memory\n") o.before o.after ⊎ (o.after ≡ o.before))
 
-abbrev pub ExplainsBy : {R W : Type 0} → Counting → ExplainWords → Input R → Output W → (status : ℕ) → Type 0
-ExplainsBy counting g i o status = Tells (SaysExplained counting g i) o status ⊎ TellsNothing i o status
-
--- with some keys
 abbrev pub Explains : {R W : Type 0} → ExplainWords → Input R → Output W → (status : ℕ) → Type 0
-Explains g i o status = ExplainsBy any_counting g i o status
+Explains g i o status = Tells (SaysExplained g i) o status ⊎ TellsNothing o status

@@ -2,10 +2,10 @@
 use Rattle.std.specs.Prelude.{◌≡◌, ◌⊎◌, ℕ, List, [], ◌++◌, Option, None, Some, Ok, length}
 use Rattle.byte_streams.specs.Inputs.{IsWholeInput}
 use Rattle.byte_streams.specs.Streams.{Input}
-use Rattle.cluster_inspection.specs.Refusals.{FailsToRead, TellsNoPlan, plan_from}
+use Rattle.cluster_inspection.specs.Refusals.{TellsNoPlan, plan_from}
 use Rattle.cluster_inspection.specs.Starts.{AreCleanOwners, SaysNoStart, SaysUnstarted, StartsFrom}
 use Rattle.cluster_inspection.specs.Starts.{names_listed}
-use Rattle.cluster_inspection.specs.VerifyingAt.{Counting, line_of}
+use Rattle.cluster_inspection.specs.VerifyingAt.{line_of}
 use Rattle.cluster_inspection.specs.declared.refusal.Refusal.{Refusal}
 use Rattle.cluster_inspection.specs.declared.refusal.Refusal.TheVariants as refusal
 use Rattle.command_words.specs.declared.usage.Start.{Start}
@@ -48,14 +48,14 @@ abbrev pub IsPlainPreview : Start → Parsed → Preview → Type 0
 IsPlainPreview start parsed p = (plan : PlanView) × (parsed ≡ Ok plan) × ((o : Owners) × StartsPlan start plan o
     × IsPreview o plan None p × (p.servers.items ≡ []))
 
--- of a plan from the owners of a clean cluster, with the keys of each slot, counted so, and its servers
-abbrev pub IsPreviewAt : Counting → PlanView → Preview → Type 0
-IsPreviewAt counting plan p = (o : Owners) × AreCleanOwners (names_listed plan) o
-    × ((keys : List ℕ) × counting o plan keys × IsPreview o plan (Some keys) p)
+-- of a plan from the owners of a clean cluster, with some keys of each slot, and its servers
+abbrev pub IsPreviewAt : PlanView → Preview → Type 0
+IsPreviewAt plan p = (o : Owners) × AreCleanOwners (names_listed plan) o
+    × ((keys : List ℕ) × IsPreview o plan (Some keys) p)
     × ((book : List Server) × (length book ≡ o.nodes) × AreServers book p.servers.items)
 
-abbrev pub IsCountedPreview : Counting → Parsed → Preview → Type 0
-IsCountedPreview counting parsed p = (plan : PlanView) × (parsed ≡ Ok plan) × IsPreviewAt counting plan p
+abbrev pub IsCountedPreview : Parsed → Preview → Type 0
+IsCountedPreview parsed p = (plan : PlanView) × (parsed ≡ Ok plan) × IsPreviewAt plan p
 
 -- of the plan that was read
 abbrev pub IsPlainIn : {R : Type 0} → Start → Input R → Preview → Type 0
@@ -63,15 +63,15 @@ IsPlainIn start i p =
     (input : List ℕ) × IsWholeInput i.gave i.ends i.before i.after input
     × IsPlainPreview start (plan_from start input) p
 
-abbrev pub IsCountedIn : {R : Type 0} → Counting → Input R → Preview → Type 0
-IsCountedIn counting i p = (input : List ℕ) × IsWholeInput i.gave i.ends i.before i.after input
-    × IsCountedPreview counting (any_plan_of_text input) p
+abbrev pub IsCountedIn : {R : Type 0} → Input R → Preview → Type 0
+IsCountedIn i p =
+    (input : List ℕ) × IsWholeInput i.gave i.ends i.before i.after input × IsCountedPreview (any_plan_of_text input) p
 
 -- by the start: keys are counted at the servers of a cluster alone
-abbrev pub IsShownIn : {R : Type 0} → Counting → Start → Input R → Preview → Type 0
-IsShownIn counting (Even s) i p = IsPlainIn (Even s) i p
-IsShownIn counting (Cluster g) i p = IsCountedIn counting i p
-IsShownIn counting (Survey path) i p = IsPlainIn (Survey path) i p
+abbrev pub IsShownIn : {R : Type 0} → Start → Input R → Preview → Type 0
+IsShownIn (Even s) i p = IsPlainIn (Even s) i p
+IsShownIn (Cluster g) i p = IsCountedIn i p
+IsShownIn (Survey path) i p = IsPlainIn (Survey path) i p
 
 -- ---- nothing to show
 
@@ -107,5 +107,5 @@ TellsWhy start i t =
 -- that is the answer, memory ran out, or the plan could not be read
 abbrev pub IsUnshown : {R : Type 0} → Start → Input R → Refusal → Type 0
 IsUnshown start i refusal.Memory = Unit {0}
-IsUnshown start i refusal.Unread = FailsToRead i
+IsUnshown start i refusal.Unread = Unit {0}
 IsUnshown start i (refusal.Answer t) = TellsWhy start i t

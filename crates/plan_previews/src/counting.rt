@@ -32,8 +32,7 @@ pub fn counts_of<I: ByteIn + Drop, O: ByteOut + Drop>(
     servers: FoundCluster<I, O>,
     plan: &Plan,
 ) -> Result<Counts, Refusal>
-    ensures counts { IfOk result
-        (AreCounts (record { gave = I.gave; took = O.took }) servers.surveyed.survey servers.book plan.now) }
+    ensures counts { IfOk result (AreCounts servers.book plan.now) }
     ensures uncounted { IfErr result IsUncounted }
 {
     let FoundCluster {
@@ -58,7 +57,7 @@ fn counted<I: ByteIn + Drop, O: ByteOut + Drop>(
 ) -> Result<Counts, SurveyFault>
     requires survey { vec_len links.old ≡ length survey.now.rows }
     requires book { vec_len links.old ≡ length book.now }
-    ensures counts { IfOk result (AreCounts (record { gave = I.gave; took = O.took }) survey.now book.now plan.now) }
+    ensures counts { IfOk result (AreCounts book.now plan.now) }
 {
     let counted = plan.try_copy()?;
     let loaded = plan.try_copy()?;

@@ -1,10 +1,7 @@
 //! The command that explains a plan.
-ghost use Rattle.std.specs.Prelude.{◌≡◌, IfErr, IfOk, false, true};
-ghost use Rattle.byte_streams.specs.declared.reading.Unread.TheVariants as unread;
-ghost use Rattle.cluster_inspection.specs.Refusals.{FailsToRead};
-ghost use Rattle.cluster_inspection.specs.VerifyingAt.{counting_by};
+ghost use Rattle.std.specs.Prelude.{◌≡◌, IfOk, false, true};
 ghost use Rattle.command_words.specs.Starts.{IsStart};
-ghost use Rattle.plan_previews.specs.Explaining.{Explains, ExplainsBy, SaysExplained, explained_text};
+ghost use Rattle.plan_previews.specs.Explaining.{Explains, SaysExplained, explained_text};
 
 use crate::going_on::resume_text;
 use crate::looking::preview_from;
@@ -15,7 +12,6 @@ use cluster_inspection::{System, out_of_memory, report};
 use command_words::ExplainWords;
 use plan_json::json;
 use plan_pages::page;
-use server_links::{ServerInput, ServerOutput};
 use std::alloc::{AllocError, Global};
 use std::fs::{File, Files};
 use std::net::{Net, TcpListener, TcpStream};
@@ -26,19 +22,12 @@ use transcripts::Transcript;
 /// refused. The status is 0 where the plan is legal, and 1 where it is refused, there is no survey, memory ran out, or
 /// a read or write failed.
 pub fn explain_plan<
-    'a,
     H: Net<Listener = TcpListener, Stream = TcpStream> + Clock + Files<File = File> + AllocGlobal,
     R: ByteIn,
     W: ByteOut,
->(system: &System<'a, H>, words: &ExplainWords, reader: &mut R, writer: &mut W) -> u8
+>(system: &System<'_, H>, words: &ExplainWords, reader: &mut R, writer: &mut W) -> u8
     requires { IsStart words.now.start }
-    ensures explains { Explains words.now
-        (record { gave = R.gave; ends = R.ends; failures = R.failures; before = reader.old; after = reader.new })
-        (record { took = W.took; failures = W.failures; before = writer.old; after = writer.new }) result }
-    ensures counted { ExplainsBy (counting_by (record {
-      gave = ⟦<ServerInput<'a, H> as ByteIn>⟧.gave;
-      took = ⟦<ServerOutput<'a, H> as ByteOut>⟧.took;
-    })) words.now
+    ensures { Explains words.now
         (record { gave = R.gave; ends = R.ends; failures = R.failures; before = reader.old; after = reader.new })
         (record { took = W.took; failures = W.failures; before = writer.old; after = writer.new }) result }
 {
@@ -51,19 +40,13 @@ pub fn explain_plan<
 
 /// What there is to write.
 fn explanation<
-    'a,
     H: Net<Listener = TcpListener, Stream = TcpStream> + Clock + Files<File = File> + AllocGlobal,
     R: ByteIn,
->(system: &System<'a, H>, words: &ExplainWords, reader: &mut R) -> Result<Transcript, Unread>
+>(system: &System<'_, H>, words: &ExplainWords, reader: &mut R) -> Result<Transcript, Unread>
     requires { IsStart words.now.start }
-    ensures answer { IfOk result (λ t. SaysExplained (counting_by (record {
-      gave = ⟦<ServerInput<'a, H> as ByteIn>⟧.gave;
-      took = ⟦<ServerOutput<'a, H> as ByteOut>⟧.took;
-    })) words.now
+    ensures { IfOk result (λ t. SaysExplained words.now
         (record { gave = R.gave; ends = R.ends; failures = R.failures; before = reader.old; after = reader.new })
         t.status t.printed.items) }
-    ensures unread { IfErr result (λ e. e ≡ unread.Failed → FailsToRead
-        (record { gave = R.gave; ends = R.ends; failures = R.failures; before = reader.old; after = reader.new })) }
 {
     match preview_from(system, &words.start, reader) {
         Ok(preview) => Ok(explained(system.alloc, &preview, words.json)?),

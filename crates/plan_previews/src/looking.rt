@@ -1,7 +1,6 @@
 //! What a plan comes to, where it starts from an even split, at a cluster of servers or from its survey.
 ghost use Rattle.std.specs.Prelude.{IfErr, IfOk, vec_len};
 ghost use Rattle.cluster_inspection.specs.Starts.{IsClean, IsNumberedBy, names_listed};
-ghost use Rattle.cluster_inspection.specs.VerifyingAt.{counting_by};
 ghost use Rattle.cluster_survey.specs.Found.{IsFound};
 ghost use Rattle.command_words.specs.Clusters.{IsAddressed};
 ghost use Rattle.command_words.specs.Starts.{IsStart};
@@ -21,7 +20,6 @@ use command_words::{ClusterWords, Start};
 use key_slots::NodeId;
 use plan_changes::outline;
 use plan_runner::Plan;
-use server_links::{ServerInput, ServerOutput};
 use std::alloc::Global;
 use std::fs::{File, Files};
 use std::net::{Net, TcpListener, TcpStream};
@@ -29,15 +27,11 @@ use std::time::Clock;
 
 /// What the plan that the reader gives comes to; at a cluster of servers with its keys and what each server tells.
 pub fn preview_from<
-    'a,
     H: Net<Listener = TcpListener, Stream = TcpStream> + Clock + Files<File = File> + AllocGlobal,
     R: ByteIn,
->(system: &System<'a, H>, start: &Start, reader: &mut R) -> Result<Preview, Refusal>
+>(system: &System<'_, H>, start: &Start, reader: &mut R) -> Result<Preview, Refusal>
     requires { IsStart start.now }
-    ensures shown { IfOk result (IsShownIn (counting_by (record {
-      gave = ⟦<ServerInput<'a, H> as ByteIn>⟧.gave;
-      took = ⟦<ServerOutput<'a, H> as ByteOut>⟧.took;
-    })) start.now
+    ensures shown { IfOk result (IsShownIn start.now
         (record { gave = R.gave; ends = R.ends; failures = R.failures; before = reader.old; after = reader.new })) }
     ensures unshown { IfErr result (IsUnshown start.now
         (record { gave = R.gave; ends = R.ends; failures = R.failures; before = reader.old; after = reader.new })) }
@@ -76,15 +70,11 @@ pub fn plain_preview<
 /// What the plan that the reader gives comes to at the cluster of servers, which has to be clean. The nodes are
 /// numbered by the names of the plan.
 fn counted_preview<
-    'a,
     H: Net<Listener = TcpListener, Stream = TcpStream> + Clock + Files<File = File> + AllocGlobal,
     R: ByteIn,
->(system: &System<'a, H>, words: &ClusterWords, reader: &mut R) -> Result<Preview, Refusal>
+>(system: &System<'_, H>, words: &ClusterWords, reader: &mut R) -> Result<Preview, Refusal>
     requires { IsAddressed words.now }
-    ensures shown { IfOk result (IsCountedIn (counting_by (record {
-      gave = ⟦<ServerInput<'a, H> as ByteIn>⟧.gave;
-      took = ⟦<ServerOutput<'a, H> as ByteOut>⟧.took;
-    }))
+    ensures shown { IfOk result (IsCountedIn
         (record { gave = R.gave; ends = R.ends; failures = R.failures; before = reader.old; after = reader.new })) }
     ensures unshown { IfErr result (IsUnshown (Cluster words.now)
         (record { gave = R.gave; ends = R.ends; failures = R.failures; before = reader.old; after = reader.new })) }
@@ -108,7 +98,7 @@ fn preview_at<I: ByteIn + Drop, O: ByteOut + Drop>(
         (vec_len servers.links) }
     requires numbered { IsNumberedBy (names_listed plan) servers.book }
     requires clean { IsClean servers.surveyed.survey }
-    ensures shown { IfOk result (IsPreviewAt (counting_by (record { gave = I.gave; took = O.took })) plan) }
+    ensures shown { IfOk result (IsPreviewAt plan) }
     ensures unshown { IfErr result (TellsFaultAt plan) }
 {
     let owners = servers.surveyed.survey.owners(NodeId::of(0)).try_copy()?;

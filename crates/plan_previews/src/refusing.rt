@@ -1,7 +1,5 @@
 //! Why there is nothing to show.
 ghost use Rattle.std.specs.Prelude.{◌≡◌, IfErr, IfOk};
-ghost use Rattle.byte_streams.specs.declared.reading.Unread.TheVariants as unread;
-ghost use Rattle.cluster_inspection.specs.declared.refusal.Refusal.TheVariants as why;
 ghost use Rattle.plan_previews.specs.Refusing.{IsAnswerOf, first_line, reason_text, refused_text};
 
 use byte_streams::Unread;
@@ -13,8 +11,7 @@ use transcripts::Transcript;
 
 /// The answer that says why, as it is or as JSON; or that memory ran out, or the plan could not be read.
 pub fn refused(alloc: Global, refusal: Refusal, json: bool) -> Result<Transcript, Unread>
-    ensures answer { IfOk result (IsAnswerOf json refusal) }
-    ensures unread { IfErr result (λ e. e ≡ unread.Failed → refusal ≡ why.Unread) }
+    ensures { IfOk result (IsAnswerOf json refusal) }
 {
     match refusal {
         Refusal::Memory => Err(Unread::Memory),

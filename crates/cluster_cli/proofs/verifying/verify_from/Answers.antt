@@ -7,7 +7,7 @@ returns-in-Even g c =
     (record { few = did.status; verified = did.verified; refused = did.refused; read = did.read; unfailed = did.unfailed })
 
 pub returns-in-Cluster : goal.returns-in-Cluster
-returns-in-Cluster g c = rw c.in-Cluster.is c.verify_at.ensures.verifies
+returns-in-Cluster g c = rw c.in-Cluster.is c.verify_at.ensures
 
 pub returns-in-Survey : goal.returns-in-Survey
 returns-in-Survey g c = rw c.in-Survey.is c.verify_plainly.ensures

@@ -1,22 +1,12 @@
 use Rattle.std.proofs.Common.{subst}
-use Rattle.byte_streams.specs.Streams.{Input}
 use Rattle.cluster_inspection.specs.Starts.{StartsFrom}
 use Rattle.cluster_inspection.proofs.FileRead.{refused_unstarted}
-use Rattle.cluster_inspection.proofs.Started.{refusals_of}
 use Rattle.cluster_inspection.proofs.plain_verdicts.answer_from.Goals as goal
 
 pub returns-in_err-owners-clause-refusal : goal.returns-in_err-owners-clause-refusal
 returns-in_err-owners-clause-refusal g c =
-    let read : Input _ = record {
-      gave = g.R.ByteIn.gave;
-      ends = g.R.ByteIn.ends;
-      failures = g.R.ByteIn.failures;
-      before = c.args.reader.now;
-      after = c.plan_from.new.reader;
-    } in
-    refusals_of read c.from_residual-in_err-owners.result
-    (refused_unstarted c.args.start.now c.in_err-owners.field-0.0 c.from_residual-in_err-owners.result
-    c.in_err-owners.ensures.unstarted c.from_residual-in_err-owners.ensures.1)
+    refused_unstarted c.args.start.now c.in_err-owners.field-0.0 c.from_residual-in_err-owners.result
+    c.in_err-owners.ensures.unstarted c.from_residual-in_err-owners.ensures.1
 
 pub returns-clause-says : goal.returns-clause-says
 returns-clause-says g c = (

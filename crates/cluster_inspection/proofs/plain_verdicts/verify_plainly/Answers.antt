@@ -22,4 +22,4 @@ returns-in-Ok g c =
     c.report.ensures.reported)
 
 pub returns-in-Err : goal.returns-in-Err
-returns-in-Err g c = inr (c.in-Err.refusal, c.in-Err.ensures.refusal, c.report_refusal.ensures)
+returns-in-Err g c = inr c.report_refusal.ensures

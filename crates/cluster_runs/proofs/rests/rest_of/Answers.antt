@@ -1,7 +1,7 @@
 use Rattle.std.proofs.Common.{◌≡◌, ◌∙◌, [], arith, sym}
 use Rattle.std.proofs.lemmas.Grind.{common_steps}
 use Rattle.std.specs.Prelude.{vec_len}
-use Rattle.cluster_runs.proofs.RestPlans.{at_servers, is_prepared_rest, nothing_left, opened_there, shown_there, with_book}
+use Rattle.cluster_runs.proofs.RestPlans.{at_servers, is_prepared_rest, nothing_left, opened_there, with_book}
 use Rattle.cluster_runs.proofs.rests.rest_of.Goals as goal
 
 pub returns-then-is_empty-clause-left : goal.returns-then-is_empty-clause-left
@@ -20,7 +20,6 @@ returns-clause-left g c =
       is_prepared_rest servers.book c.in_ok-survey.survey c.in_ok-plan.plan r c.args.attempt.now.batch c.args.lines.now
           (with_book servers r ensures.servers) (at_servers servers r ensures.servers c.requires.found)
           (opened_there servers r c.in_ok-survey.survey ensures.servers c.in_ok-survey.ensures.survey) c.requires.numbered
-          c.in_ok-plan.ensures.plan ensures.legal ensures.runs ensures.survey ensures.moves
-          (shown_there servers r c.in_ok-plan.plan ensures.servers ensures.shown),
+          c.in_ok-plan.ensures.plan ensures.legal ensures.runs ensures.survey ensures.moves,
       ensures.told,
     )

@@ -4,4 +4,4 @@ use Rattle.cluster_runs.proofs.settled_rests.settle.Goals as goal
 pub returns-clause-settled : goal.returns-clause-settled
 returns-clause-settled g c =
     let h = c.in_ok-counts.ensures.settled in
-    (_, refl, refl, refl, c.in_ok-credentials.ensures, (c.settle_open.new.links.items, (h.0, h.1, h.2)))
+    (_, _, _, refl, refl, refl, (c.settle_open.new.links.items, (h.0, h.1, h.2)))

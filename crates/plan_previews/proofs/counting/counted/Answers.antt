@@ -1,7 +1,4 @@
-use Rattle.std.proofs.Common.{rules, ap, subst, ◌∙◌}
-use Rattle.cluster_inspection.specs.Starts.{owners_told}
-use Rattle.cluster_inspection.specs.VerifyingAt.{counting_by}
-use Rattle.plan_language.specs.PlanView.{PlanView}
+use Rattle.std.proofs.Common.{rules, ap, ◌∙◌}
 use Rattle.plan_language.specs.Lines.{plan_commands}
 use Rattle.plan_changes.specs.Loads.{load_of}
 use Rattle.server_infos.specs.Asking.{AsksFigures}
@@ -13,8 +10,6 @@ returns g c =
     let asks = AsksFigures (record { gave = g.I.ByteIn.gave; took = g.O.ByteOut.took }) in
     record {
       counts = record {
-        counted = subst (λ (p : PlanView). counting_by _ (owners_told c.args.survey.now) p c.in_ok-keys.keys.items)
-            c.in_ok-counted.ensures (c.args.links.now.items, c.key_counts.new.links.items, c.in_ok-keys.ensures.counted);
         width = search rules;
         load = c.of-load.ensures
             ∙ (λ i. load_of (c.as_slice.ensures.value i) (plan_commands (c.nodes-nodes.ensures.value i) (c.in_ok-loaded.ensures i).lines));

@@ -2,15 +2,14 @@ use Rattle.std.proofs.Common.{inl}
 use Rattle.std.proofs.lemmas.Result.{IfOk-weaker}
 use Rattle.byte_streams.specs.Streams.{Input}
 use Rattle.plan_previews.proofs.Told.{refused_says}
-use Rattle.plan_previews.proofs.Unshown.{err_weaker, unread}
 use Rattle.plan_previews.proofs.explaining.explanation.Goals as goal
 
-pub returns-in_ok-explained-in-Ok-clause-answer : goal.returns-in_ok-explained-in-Ok-clause-answer
-returns-in_ok-explained-in-Ok-clause-answer g c =
+pub returns-in_ok-explained-in-Ok : goal.returns-in_ok-explained-in-Ok
+returns-in_ok-explained-in-Ok g c =
     inl (c.in-Ok.preview, c.in-Ok.ensures.shown, c.in_ok-explained-in-Ok.ensures.status, c.in_ok-explained-in-Ok.ensures.text)
 
-pub returns-in-Err-clause-answer : goal.returns-in-Err-clause-answer
-returns-in-Err-clause-answer g c =
+pub returns-in-Err : goal.returns-in-Err
+returns-in-Err g c =
     let read : Input _ = record {
       gave = g.R.ByteIn.gave;
       ends = g.R.ByteIn.ends;
@@ -18,17 +17,5 @@ returns-in-Err-clause-answer g c =
       before = c.args.reader.now;
       after = c.preview_from.new.reader;
     } in
-    IfOk-weaker c.refused.result _ _ (λ t is. refused_says _ c.args.words.now read c.in-Err.refusal t c.in-Err.ensures.unshown is)
-    c.refused.ensures.answer
-
-pub returns-in-Err-clause-unread : goal.returns-in-Err-clause-unread
-returns-in-Err-clause-unread g c =
-    let read : Input _ = record {
-      gave = g.R.ByteIn.gave;
-      ends = g.R.ByteIn.ends;
-      failures = g.R.ByteIn.failures;
-      before = c.args.reader.now;
-      after = c.preview_from.new.reader;
-    } in
-    err_weaker c.refused.result _ _ (λ e why failed. unread read c.args.words.now.start c.in-Err.refusal c.in-Err.ensures.unshown (why failed))
-    c.refused.ensures.unread
+    IfOk-weaker c.refused.result _ _ (λ t is. refused_says c.args.words.now read c.in-Err.refusal t c.in-Err.ensures.unshown is)
+    c.refused.ensures

@@ -35,7 +35,7 @@ returns-clause-shown g c =
       before = c.args.reader.now;
       after = c.plan_in.new.reader;
     } in
-    IfOk-weaker c.preview_at.result _ _ (λ p at. counted_shown read _ c.in_ok-plan.plan p c.in_ok-plan.ensures.plan at)
+    IfOk-weaker c.preview_at.result _ _ (λ p at. counted_shown read c.in_ok-plan.plan p c.in_ok-plan.ensures.plan at)
     c.preview_at.ensures.shown
 
 pub returns-clause-unshown : goal.returns-clause-unshown

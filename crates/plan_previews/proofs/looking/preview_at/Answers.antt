@@ -1,6 +1,6 @@
 use Rattle.std.proofs.Common.{◌≡◌, ◌++◌, ◌∙◌, Some, ap, length, subst, sym}
 use Rattle.std.proofs.lemmas.Result.{err_from_is_err_and}
-use Rattle.cluster_inspection.specs.VerifyingAt.{counting_by, line_of}
+use Rattle.cluster_inspection.specs.VerifyingAt.{line_of}
 use Rattle.cluster_inspection.proofs.CleanOwners.{clean_owners, told_at}
 use Rattle.key_slots.specs.Owners.{Owners}
 use Rattle.transcripts.specs.PlanVerdicts.{SaysCount}
@@ -42,9 +42,6 @@ returns-clause-shown g c =
           (told_at c.args.servers.surveyed.survey c.of.result c.in_ok-owners.owners (c.in_ok-owners.ensures ∙ c.owners.ensures) c.of.ensures),
       (
         c.in_ok-counts.counts.keys.items,
-        subst (λ (o : Owners). counting_by _ o c.args.plan c.in_ok-counts.counts.keys.items)
-            (sym (told_at c.args.servers.surveyed.survey c.of.result c.in_ok-owners.owners (c.in_ok-owners.ensures ∙ c.owners.ensures) c.of.ensures))
-            c.in_ok-counts.ensures.counts.counted,
         record {
           verdict = (
             old.printed.items,
