@@ -5,8 +5,8 @@ use Rattle.cluster_inspection.specs.Answers.{IsNotWritten, IsWritten, Tells}
 use Rattle.cluster_cli.specs.Planning.{Plans}
 
 pub not_left : {A B : Type 0} → (A → ⊥) → A ⊎ B → B
-not_left no (inl a) = absurd (no a)
-not_left no (inr b) = b
+not_left empty (inl a) = absurd (empty a)
+not_left empty (inr b) = b
 
 -- what becomes of a report of wrong usage
 abbrev pub IsMisused : {E : Type 0} → Output E → (report : List ℕ) → (status : ℕ) → Type 0

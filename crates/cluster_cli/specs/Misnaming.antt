@@ -22,8 +22,8 @@ first_unnamed n (word ∷ words) = cond (is_some (node_of n word)) (first_unname
 -- `error: --from: 'n9' is no node of the cluster, which has n0 to n2`
 abbrev pub no_node_text : (option word : List ℕ) → (nodes : ℕ) → List ℕ
 no_node_text option word n =
-    codes "error: " ++ (option ++ (codes ": '" ++ (word ++ (codes "' is no node of the cluster, which has n0 to n"
-    ++ (decimal (n - 1) ++ codes "\n")))))
+    (((codes "error: " ++ option) ++ codes ": '") ++ word)
+    ++ (codes "' is no node of the cluster, which has n0 to n" ++ (decimal (n - 1) ++ codes "\n"))
 
 -- of the nodes in the text, with commas between them
 abbrev pub unnamed_in : (nodes : ℕ) → (text : List ℕ) → Option (List ℕ)

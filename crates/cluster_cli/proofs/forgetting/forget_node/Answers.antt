@@ -23,7 +23,7 @@ returns-in-Ok-Some g c =
     (subst (λ (o : Option Transcript). IfSome o (λ x. x.status ≤ 1)) c.in-Ok-Some.field-0-is
     c.in-Ok-Some.ensures.status)
     c.report.ensures.reported)
-    (λ same. g.E.ByteOut.took_none c.args.errors.now)
+    (λ same. g.met.E.ByteOut.took_none c.args.errors.now)
 
 pub returns-in-Ok-None : goal.returns-in-Ok-None
 returns-in-Ok-None g c =
@@ -48,4 +48,4 @@ returns-in-Err g c =
     c.args.errors.now c.out_of_memory.result
     (untold (λ s u. ForgetSays c.args.words.now s u []) g.W.ByteOut.took g.W.ByteOut.failures c.args.writer.now
     c.out_of_memory.new.writer c.out_of_memory.result c.out_of_memory.ensures.status c.out_of_memory.ensures.wrote)
-    (λ same. g.E.ByteOut.took_none c.args.errors.now)
+    (λ same. g.met.E.ByteOut.took_none c.args.errors.now)

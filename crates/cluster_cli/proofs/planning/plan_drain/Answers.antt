@@ -32,7 +32,7 @@ returns-in-Ok-Misnamed g c =
       before = c.args.errors.now;
       after = c.misuse.new.errors;
     }) t c.misuse.result)
-    c.as_slice.ensures.value c.misuse.ensures.reported)
+    c.as_slice-in-Ok-Misnamed.ensures.value c.misuse.ensures.reported)
 
 pub returns-in-Err : goal.returns-in-Err
 returns-in-Err g c =
@@ -42,4 +42,4 @@ returns-in-Err g c =
     c.out_of_memory.result
     (untold (λ s u. says s u []) g.W.ByteOut.took g.W.ByteOut.failures c.args.writer.now c.out_of_memory.new.writer
     c.out_of_memory.result c.out_of_memory.ensures.status c.out_of_memory.ensures.wrote)
-    (λ same. g.E.ByteOut.took_none c.args.errors.now)
+    (λ same. g.met.E.ByteOut.took_none c.args.errors.now)
