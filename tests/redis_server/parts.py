@@ -17,7 +17,8 @@ from servers import Servers, keys_in
 
 PORTS_A_PART = 12
 SECONDS = 300
-ENVIRONMENT = {name: value for name, value in os.environ.items() if not name.startswith("RESHARD_")}
+ENVIRONMENT = {name: value for name, value in os.environ.items()
+               if not name.startswith("RESHARD_") and name != "REDISCLI_AUTH"}
 
 
 def plan_of(*lines, version=1):
