@@ -120,8 +120,11 @@ def failed_read(whole, ran):
 
 
 def failed_write(whole, ran):
+    """A write of the answer failed, which is told after what is remarked of it; or only the remark was not written."""
     status, printed, errors = ran
-    return status == 1 and whole[1].startswith(printed) and is_one_line(errors, UNWRITTEN)
+    told = errors.removeprefix(whole[2])
+    unwritten = status == 1 and whole[1].startswith(printed) and is_one_line(told, UNWRITTEN)
+    return unwritten or (whole[2] != b"" and ran == (whole[0], whole[1], b""))
 
 
 def short_stream(whole, ran):
